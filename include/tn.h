@@ -1,29 +1,29 @@
 /* tn.h: Telnet with LINEMODE (RFC 854, 855, 857, 858, 1073, 1143, 1184) for C99 and C++.
  *
- * There are four things: a tn_line (keys to entries), a tn_decoder (a stream to items), a tn_server and a tn_client (the two ends
+ * There are four types: a tn_line (keys to entries), a tn_decoder (a stream to items), a tn_server and a tn_client (the two ends
  * of a connection). No call opens a socket, reads a file, starts a thread or waits: bytes go in, bytes come out.
  *
- * What the caller keeps to:
- *   - Each begins as TN_HANDLE and holds nothing. Its _start fills it, its _free frees what it holds, and it may be started again.
- *     It may be moved, never copied: of two copies only one is ever used again. Only these calls read or write what is in it.
- *   - One call at a time uses it, on any thread: a lock, a thread's start or join, or a sequentially consistent atomic orders the
- *     calls of two threads. Different ones are independent. A call that takes it as const leaves all that it holds as it was, but
- *     writes the handle meanwhile: not even two such calls may be made at once.
- *   - A pointer to bytes may be null if their number is 0, and the handle of _free; no other pointer is null. Each points to as many
- *     objects of its type as the call names. They are initialized, also if the call only writes them: the prover knows a reference to bytes
- *     only as one to bytes that have a value. A count or a length begins as 0, a buffer as { 0 }. No two pointers of one call point to
- *     the same memory. No pointer is kept: after the call what it points to is the caller's again.
+ * The caller has to keep these rules:
+ *   - Each handle begins as TN_HANDLE and holds nothing. Its _start fills it, its _free frees what it holds, and it may be started
+ *     again. It may be moved, never copied: of two copies only one is ever used again. Only these calls read or write what is in it.
+ *   - One call at a time uses a handle, on any thread: a lock, a thread's start or join, or a sequentially consistent atomic orders
+ *     the calls of two threads. Different handles are independent. A call that takes a handle as const leaves all that it holds as it
+ *     was, but writes the handle meanwhile: not even two such calls may be made at once.
+ *   - A pointer to bytes may be null if their number is 0, and the handle of _free may be null; no other pointer is null. Each points
+ *     to as many objects of its type as the call names. Initialize them even if the call only writes to them: the prover knows a
+ *     reference to bytes only as one to bytes that have a value. A count or a length begins as 0, a buffer as { 0 }. No two pointers
+ *     of one call point to overlapping memory. No call keeps a pointer: after the call the memory is the caller's again.
  *   - Memory comes from malloc and realloc and is freed by free, all three of one allocator.
  *   - No call is made from a signal handler, nor in the child of a fork of a process with threads.
  *
- * A call that copies to a buffer copies the first bytes, as many as fit, and *length is how many there are: where that is more than the
- * buffer's size, they stay, and may be copied to a larger one. Those of _read and _screen are moved: *count of them, and the others
- * wait on.
+ * A call that copies to a buffer copies the first bytes, as many as fit, and sets *length to the number of all of them: if that is more
+ * than the buffer's size, they stay, and may be copied to a larger one. The bytes of _read and _screen are moved: *count of them, and
+ * the others wait on.
  *
- * Each call but _free, tn_version and tn_code_text returns a code. If it is not TN_OK, nothing was written through the pointers, and what is
- * held is as it was, except after the calls of _feed and _say, whose comments say what they leave. TN_NOT_STARTED, if nothing is held, is
- * returned by every call but _start, _free and those without a handle, and is not named again below. The other codes of a call stand at it; of several
- * that fit, it returns the first one there.
+ * Each call but _free, tn_version and tn_code_text returns a code. If it is not TN_OK, nothing was written through the pointers, and the
+ * handle's content is as it was, except after the calls of _feed and _say, whose comments say what they leave. Every call but _start,
+ * _free and those without a handle returns TN_NOT_STARTED if its handle holds nothing; the comments below do not name it again. The
+ * other codes of a call are named at it; if several apply, it returns the first one there.
  */
 #ifndef TN_H
 #define TN_H
@@ -42,10 +42,10 @@ extern "C" {
 #define TN_VERSION_PATCH 0
 #define TN_VERSION_NUMBER 10200 /* what tn_version() returns */
 
-/* The shared library that a program built with this header asks for. */
+/* The shared library that a program built with this header loads. */
 #define TN_SONAME "libtn.so.2"
 
-/* What compilers that can do so see to: that these parameters are not null, and that the answer is looked at. */
+/* Attributes by which a compiler checks that these parameters are not null, and that the code is used. */
 #ifdef __GNUC__
 #define TN_NONNULL(places) __attribute__((nonnull places))
 #define TN_CALL(places) TN_NONNULL(places) __attribute__((warn_unused_result))
@@ -61,8 +61,8 @@ extern "C" {
 #define TN_ENUM
 #endif
 
-/* Four types, so that a call with another one does not compile. Where TN_UNTYPED is defined they are one, tn_handle, and the names
- * of version 1.0 are there. */
+/* Four types, so that a call with another one does not compile. If TN_UNTYPED is defined, they are one type, tn_handle, and the names
+ * of version 1.0 are defined. */
 #ifdef TN_UNTYPED
 typedef struct tn_handle {
     void *tn_private;
@@ -97,40 +97,40 @@ typedef enum tn_code TN_ENUM {
     TN_OTHER_KIND = 5,    /* it holds another of the four: never, unless a pointer was cast */
     TN_NO_LIMIT = 6,      /* a line's limit is 255 to 4,095 bytes */
     TN_TOO_FAR_AHEAD = 7, /* a key would make an entry while 1,024 wait */
-    TN_CLOSED = 8,        /* the terminal takes no input; it is closed only as its end fails, which TN_FAILED tells */
+    TN_CLOSED = 8,        /* the terminal takes no input: only when its end fails, so TN_FAILED comes first */
     TN_NO_FUNCTION = 9,   /* RFC 1184 has no function of this number */
     TN_NOT_SETTABLE = 10, /* the function has no special character */
     TN_RESERVED = 11,     /* 10, 13 and 255 are never special characters */
     TN_TAKEN = 12,        /* another function has this character */
     TN_NOT_ON = 13,       /* LINEMODE is not on */
     TN_TOO_LONG = 14,     /* a forward mask has at most 32 octets, a subnegotiation 512 parameters */
-    TN_NO_COMMAND = 15    /* no command that the call takes, or no option word, has this number */
+    TN_NO_COMMAND = 15    /* no command that the call takes, or no verb (WILL to DONT), has this number */
 } tn_code;
 
-/* Four of them by other names. */
+/* Other names of four codes. */
 #define TN_BAD_LIMIT TN_NO_LIMIT
 #define TN_BAD_FUNCTION TN_NO_FUNCTION
 #define TN_CHAR_IN_USE TN_TAKEN
 #define TN_BAD_COMMAND TN_NO_COMMAND
 
-/* A few words on a code, in English, which are never freed. */
+/* Returns a short English text for a code. It is never freed. */
 const char *tn_code_text(tn_code code);
 
-/* The version of the library that is linked, as TN_VERSION_NUMBER has that of this header. */
+/* Returns the version of the linked library, in the form of TN_VERSION_NUMBER, which is the version of this header. */
 uint32_t tn_version(void);
 
-/* What a read of a terminal gives, and what a key does. */
+/* The kind of an entry, which a read of a terminal returns, and the effect of a key. */
 typedef enum tn_effect TN_ENUM {
     TN_NONE = 0, /* no entry waits; of a key: it was ignored, or there was nothing to erase */
-    TN_TEXT = 1, /* a line with its closing byte, or without one where EOF ended it */
-    TN_EOF = 2,  /* EOF where nothing was typed */
+    TN_TEXT = 1, /* a line with its closing byte, or without one if EOF ended it */
+    TN_EOF = 2,  /* EOF when nothing was typed */
     TN_INT = 3,  /* the three signals */
     TN_QUIT = 4,
     TN_TSTP = 5,
-    TN_KEPT = 6,         /* the byte joined the half line */
+    TN_KEPT = 6,         /* the byte joined the half-typed line */
     TN_ERASED = 7,       /* the last byte was erased */
-    TN_ERASED_AHEAD = 8, /* one that was handed on before: never of tn_line_key */
-    TN_KILLED = 9,       /* the half line was erased */
+    TN_ERASED_AHEAD = 8, /* the last byte that was handed on before was erased: never of tn_line_key */
+    TN_KILLED = 9,       /* the half-typed line was erased */
     TN_DROPPED = 10      /* the line is full */
 } tn_effect;
 
@@ -144,7 +144,7 @@ typedef struct tn_flags {
 
 #define TN_STANDARD_FLAGS { true, false, false, true, true, true, true, false, false, true, true }
 
-/* The functions of RFC 1184 that have a special character, and what they begin with. */
+/* The functions of RFC 1184 that have a special character, and the character with which each begins. */
 typedef enum tn_function TN_ENUM {
     TN_CHAR_INTR = 3,   /* 3, control-C */
     TN_CHAR_QUIT = 7,   /* 28 */
@@ -156,14 +156,14 @@ typedef enum tn_function TN_ENUM {
     TN_CHAR_EOL2 = 18   /* none */
 } tn_function;
 
-/* A special character is 0 to 254; TN_NO_CHAR, and each greater number that is given, is none. */
+/* A special character is 0 to 254. TN_NO_CHAR, and each greater number that is passed to a call, stands for none. */
 #define TN_NO_CHAR 256
 
 /* The bits of a mode (RFC 1184, section 2.2). */
 #define TN_MODE_EDIT 1
 #define TN_MODE_TRAPSIG 2
 
-/* Where one side of an option stands (RFC 1143, section 7). */
+/* The state of one side of an option (RFC 1143, section 7). */
 typedef enum tn_option_state TN_ENUM {
     TN_OPTION_NO = 0,
     TN_OPTION_YES = 1,
@@ -175,7 +175,7 @@ typedef enum tn_option_state TN_ENUM {
 
 typedef char tn_enums_have_four_bytes[sizeof(tn_code) == 4 ? 1 : -1]; /* not under -fshort-enums */
 
-/* Frees all that is held, if anything: nothing is held then. At a null pointer it does nothing. */
+/* Frees all that the handle holds, if anything; it holds nothing after the call. A null pointer is allowed, and nothing happens. */
 void tn_line_free(tn_line *line);
 void tn_decoder_free(tn_decoder *decoder);
 void tn_server_free(tn_server *server);
@@ -183,29 +183,39 @@ void tn_client_free(tn_client *client);
 
 /* ---- A line: keys to entries (POSIX.1-2017, XBD 11.1) ---- */
 
-/* An empty line of at most limit bytes with its closing one, and the characters of TN_CHAR_... above.
- * TN_STARTED, TN_NO_LIMIT, TN_MEMORY. */
+/* Puts an empty line into the handle, of at most limit bytes (255 to 4,095) with its closing one, and with the characters of
+ * TN_CHAR_... above.
+ *
+ * Returns: TN_STARTED, TN_NO_LIMIT, TN_MEMORY. */
 tn_code tn_line_start(tn_line *line, const tn_flags *flags, uint16_t limit) TN_CALL((1, 2));
 
-/* Types a key; *effect is TN_NONE to TN_DROPPED. TN_MEMORY: nothing was typed (only a key that gives a text). */
+/* Types a key, and sets *effect to its effect, TN_NONE to TN_DROPPED.
+ *
+ * Returns: TN_MEMORY, only for a key that gives a text; nothing was typed. */
 tn_code tn_line_key(tn_line *line, uint8_t key, tn_effect *effect) TN_CALL((1, 3));
 
-/* Copies the text that the last key gave, at most limit bytes; *length is 0 where it gave none. */
+/* Copies the text that the last key gave, at most limit bytes; *length is 0 if it gave none. */
 tn_code tn_line_text(const tn_line *line, uint8_t *buf, size_t size, size_t *length) TN_CALL((1, 4));
 
-/* Copies what a terminal shows of the last key, at most 3 bytes, with CR LF for a new line. TN_MEMORY. */
+/* Copies the bytes that a terminal shows of the last key, at most 3, with CR LF for a new line.
+ *
+ * Returns: TN_MEMORY. */
 tn_code tn_line_echo(const tn_line *line, uint8_t *buf, size_t size, size_t *length) TN_CALL((1, 4));
 
-/* Copies the half line, which has fewer than limit bytes. */
+/* Copies the half-typed line, which has fewer than limit bytes. */
 tn_code tn_line_half(const tn_line *line, uint8_t *buf, size_t size, size_t *length) TN_CALL((1, 4));
 
-/* Goes on under these flags; the half line stays. */
+/* Sets the flags of the line; the half-typed line stays. */
 tn_code tn_line_set_flags(tn_line *line, const tn_flags *flags) TN_CALL((1, 2));
 
-/* Changes a special character; the half line stays. TN_NO_FUNCTION, TN_NOT_SETTABLE, TN_RESERVED, TN_TAKEN. */
+/* Changes a special character, or disables it by TN_NO_CHAR; the half-typed line stays.
+ *
+ * Returns: TN_NO_FUNCTION, TN_NOT_SETTABLE, TN_RESERVED, TN_TAKEN. */
 tn_code tn_line_set_char(tn_line *line, uint8_t function, uint16_t value) TN_CALL((1));
 
-/* A special character, or TN_NO_CHAR. TN_NO_FUNCTION. */
+/* Sets *value to a special character, or to TN_NO_CHAR if it is disabled.
+ *
+ * Returns: TN_NO_FUNCTION. */
 tn_code tn_line_char(const tn_line *line, uint8_t function, uint16_t *value) TN_CALL((1, 3));
 
 /* ---- A decoder: a stream to items (RFC 854, 855) ---- */
@@ -223,119 +233,151 @@ typedef struct tn_item {
     tn_item_kind kind;
     uint8_t code;   /* of TN_BYTE, TN_COMMAND (236 to 249, never 240) and TN_WORD (251 WILL to 254 DONT) */
     uint8_t option; /* of TN_WORD and TN_SUBNEGOTIATION */
-    size_t length;  /* of TN_SUBNEGOTIATION: how many parameters, at most 512 */
+    size_t length;  /* of TN_SUBNEGOTIATION: the number of its parameters, at most 512 */
 } tn_item;
 
-/* A decoder that has read nothing. TN_STARTED, TN_MEMORY. */
+/* Puts a decoder that has read nothing into the handle.
+ *
+ * Returns: TN_STARTED, TN_MEMORY. */
 tn_code tn_decoder_start(tn_decoder *decoder) TN_CALL((1));
 
-/* Reads a piece, cut anywhere; the items that it completes wait to be taken. TN_FAILED: the decoder had failed before,
- * and all is as it was. TN_MEMORY: the items before the refusal wait, and the decoder has failed. */
+/* Reads a piece, cut anywhere; the items that it completes wait to be taken.
+ *
+ * Returns:
+ * - TN_FAILED: the decoder had failed before, and all is as it was.
+ * - TN_MEMORY: the items before the refused one wait, and the decoder has failed. */
 tn_code tn_decoder_feed(tn_decoder *decoder, const uint8_t *bytes, size_t length) TN_CALL((1));
 
-/* Takes the first item that waits; TN_NO_ITEM where none does. */
+/* Takes the first item that waits; its kind is TN_NO_ITEM if none does. */
 tn_code tn_decoder_take(tn_decoder *decoder, tn_item *item) TN_CALL((1, 2));
 
-/* Moves to buf the first bytes of data that wait, as many as came together and fit, *count of them: 0 if another item stands first. A CR that
- * is data and a byte 255 each come by themselves. The item that was taken last stays. */
+/* Moves to buf the first bytes of data that wait, as many as came together and fit, and sets *count to their number: 0 if another item
+ * is first. A CR that is data and a byte 255 each come by themselves. The item that was taken last stays. */
 tn_code tn_decoder_take_run(tn_decoder *decoder, uint8_t *buf, size_t size, size_t *count) TN_CALL((1, 4));
 
-/* Copies the parameters of the item that was taken last; *length is 0 where that is no subnegotiation. */
+/* Copies the parameters of the item that was taken last; *length is 0 if that is no subnegotiation. */
 tn_code tn_decoder_parameters(const tn_decoder *decoder, uint8_t *buf, size_t size, size_t *length) TN_CALL((1, 4));
 
-/* ---- Spelling: what a decoder reads as such an item ---- */
+/* ---- Spelling: the bytes that a decoder reads as such an item ---- */
 
-/* A byte of data, at most 2 bytes long, and a new line, 2 bytes. TN_MEMORY. */
+/* Spell a byte of data, which is 1 or 2 bytes long, and a new line, which is 2 bytes long.
+ *
+ * Returns: TN_MEMORY. */
 tn_code tn_put_byte(uint8_t byte, uint8_t *buf, size_t size, size_t *length) TN_CALL((4));
 tn_code tn_put_newline(uint8_t *buf, size_t size, size_t *length) TN_CALL((3));
 
-/* A command (236 to 249, never 240), 2 bytes, and an option word (251 WILL to 254 DONT), 3 bytes. TN_NO_COMMAND, TN_MEMORY. */
+/* Spell a command (236 to 249, never 240), 2 bytes, and an option message, 3 bytes, whose word is 251 WILL to 254 DONT.
+ *
+ * Returns: TN_NO_COMMAND, TN_MEMORY. */
 tn_code tn_put_command(uint8_t command, uint8_t *buf, size_t size, size_t *length) TN_CALL((4));
 tn_code tn_put_option(uint8_t word, uint8_t option, uint8_t *buf, size_t size, size_t *length) TN_CALL((5));
 
-/* A subnegotiation, at most 6 bytes longer than twice its parameters. TN_TOO_LONG, TN_MEMORY. */
+/* Spells a subnegotiation, which is at most 6 bytes longer than twice its parameters.
+ *
+ * Returns: TN_TOO_LONG, TN_MEMORY. */
 tn_code tn_put_sub(uint8_t option, const uint8_t *parameters, size_t count, uint8_t *buf, size_t size, size_t *length)
     TN_CALL((6));
 
-/* ---- A server end, with the terminal behind it ---- */
+/* ---- A server end, with its terminal ---- */
 
-/* An end over a terminal with these flags, whose lines have at most limit bytes; the opening words wait to be read.
- * Its special characters are those above: tn_server_set_char changes them, also before anything came.
- * TN_STARTED, TN_NO_LIMIT, TN_MEMORY. */
+/* Puts a server end into the handle, over a terminal with these flags, whose lines have at most limit bytes (255 to 4,095); the opening
+ * messages wait to be read. Its special characters are those above: tn_server_set_char changes them, even before anything came.
+ *
+ * Returns: TN_STARTED, TN_NO_LIMIT, TN_MEMORY. */
 tn_code tn_server_start(tn_server *server, const tn_flags *flags, uint16_t limit) TN_CALL((1, 2));
 
-/* Takes a piece of what comes from the client, cut anywhere; the replies wait to be read. TN_FAILED: it had failed
- * before, and all is as it was. TN_CLOSED, TN_TOO_FAR_AHEAD, TN_MEMORY: what came before the refusal was done, its
- * replies wait, and the end has failed: read what waits, and close the connection. A piece of at most 512 bytes is not
- * too far ahead where at most 511 entries wait: feed no more at once, and take the entries after each. */
+/* Takes a piece of the client's stream, cut anywhere; the replies wait to be read. A piece of at most 512 bytes is not too far ahead if
+ * at most 511 entries wait: feed no more at once, and take the entries after each.
+ *
+ * Returns:
+ * - TN_FAILED: the end had failed before, and all is as it was.
+ * - TN_CLOSED, TN_TOO_FAR_AHEAD, TN_MEMORY: the items before the refused one were done, their replies wait, and the end has failed: read
+ *   the replies, and close the connection. */
 tn_code tn_server_feed(tn_server *server, const uint8_t *bytes, size_t length) TN_CALL((1));
 
-/* Takes the first bytes of such a piece, *taken of them, and is never too far ahead: at most 512, and none while more than 511 entries
- * wait. So take the entries, and feed the others. TN_FAILED, TN_CLOSED, TN_MEMORY: as _feed. */
+/* Takes the first bytes of a piece of the client's stream, and sets *taken to their number: at most 512, and none while more than 511
+ * entries wait, so that it is never too far ahead. Take the entries, and feed the other bytes after that.
+ *
+ * Returns: TN_FAILED, TN_CLOSED, TN_MEMORY, which leave what tn_server_feed leaves. */
 tn_code tn_server_feed_some(tn_server *server, const uint8_t *bytes, size_t length, size_t *taken) TN_CALL((1, 4));
 
-/* How many bytes wait to be sent. */
+/* Sets *count to the number of bytes that wait to be sent. */
 tn_code tn_server_pending(const tn_server *server, size_t *count) TN_CALL((1, 2));
 
-/* Moves to buf the first of the bytes that wait to be sent, as many as fit; *count is how many. The others wait on. */
+/* Moves to buf the first of the bytes that wait to be sent, as many as fit, and sets *count to their number. The others wait on. */
 tn_code tn_server_read(tn_server *server, uint8_t *buf, size_t size, size_t *count) TN_CALL((1, 4));
 
-/* Where the bytes stand that wait to be sent, and how many they are: until the next call that takes this server as it is, and not as
- * const. Where *count is 0, *bytes leads nowhere. And: the first of them, at most count, were sent, and wait no more. */
+/* The first call sets *bytes to the place of the bytes that wait to be sent, and *count to their number; the place holds until the next
+ * call that does not take this server as const. If *count is 0, *bytes points to nothing. The second call removes the first of these
+ * bytes, at most count, since they were sent. */
 tn_code tn_server_peek(const tn_server *server, const uint8_t **bytes, size_t *count) TN_CALL((1, 2, 3));
 tn_code tn_server_sent(tn_server *server, size_t count) TN_CALL((1));
 
-/* Takes the first entry; *kind is TN_NONE to TN_TSTP. Where none waits a GA may be due to be sent (RFC 858):
- * TN_MEMORY is answered for it alone. */
+/* Takes the first entry, and sets *kind to its kind, TN_NONE to TN_TSTP. If none waits, a GA may be due to be sent (RFC 858).
+ *
+ * Returns: TN_MEMORY, only for the GA. */
 tn_code tn_server_take(tn_server *server, tn_kind *kind) TN_CALL((1, 2));
 
-/* Copies the text of the entry that was taken last, at most limit bytes; *length is 0 where that was no text, or none waited. */
+/* Copies the text of the entry that was taken last, at most limit bytes; *length is 0 if that was no text, or none waited. */
 tn_code tn_server_text(const tn_server *server, uint8_t *buf, size_t size, size_t *length) TN_CALL((1, 4));
 
-/* Writes zeros over that text, as over a password: its length stays, until the next take. What the terminal and the decoder held of
- * it before is not reached by this. */
+/* Writes zeros over the text of the entry that was taken last, as over a password: its length stays, until the next take. The call does
+ * not reach the copies that the terminal and the decoder held before. */
 tn_code tn_server_forget(tn_server *server) TN_CALL((1));
 
-/* Writes output to the terminal's screen, which has room for 4,096 symbols; *count says how many bytes found room. */
+/* Writes output to the terminal's screen, which has room for 4,096 symbols, and sets *count to the number of bytes that found room. */
 tn_code tn_server_write(tn_server *server, const uint8_t *bytes, size_t length, size_t *count) TN_CALL((1, 4));
 
-/* Spells the first symbols of the screen, at most max, to be sent; *count is how many symbols, each of one byte or two.
- * Echo comes by this too, so pull after each feed. TN_MEMORY. */
+/* Spells the first symbols of the screen, at most max, to be sent, and sets *count to the number of symbols, each of one byte or two. The
+ * echo is on the screen too, so pull after each feed.
+ *
+ * Returns: TN_MEMORY. */
 tn_code tn_server_pull(tn_server *server, size_t max, size_t *count) TN_CALL((1, 3));
 
-/* Does both: writes the first of these bytes, *count of them, and spells all that waits on the screen then, the echo too, also if there are no
- * bytes. If the screen was empty, the first 4,096 find room. TN_MEMORY: *count bytes were written, and wait on the screen. */
+/* Writes the first of these bytes, as tn_server_write does, sets *count to their number, and spells all that waits on the screen then, the
+ * echo too, even if there are no bytes. If the screen was empty, the first 4,096 find room.
+ *
+ * Returns: TN_MEMORY; *count bytes were written, and wait on the screen. */
 tn_code tn_server_say(tn_server *server, const uint8_t *bytes, size_t length, size_t *count) TN_CALL((1, 4));
 
-/* Wishes for lines that are edited at the client (RFC 1184), or at the server; *sent says whether a MODE waits to be sent
- * for it. TN_FAILED, TN_MEMORY. */
+/* Requests that the client, or the server, edit lines (RFC 1184, section 2.2), and sets *sent to whether a MODE waits to be sent for it.
+ * The client edits once it has acknowledged the MODE.
+ *
+ * Returns: TN_FAILED, TN_MEMORY. */
 tn_code tn_server_wish(tn_server *server, bool at_client, bool *sent) TN_CALL((1, 3));
 
-/* Changes a special character; a client with LINEMODE is told. TN_NO_FUNCTION, TN_FAILED, TN_NOT_SETTABLE,
- * TN_RESERVED, TN_TAKEN, TN_MEMORY. */
+/* Changes a special character, or disables it by TN_NO_CHAR; a client with LINEMODE gets its triple (RFC 1184, section 2.4).
+ *
+ * Returns: TN_NO_FUNCTION, TN_FAILED, TN_NOT_SETTABLE, TN_RESERVED, TN_TAKEN, TN_MEMORY. */
 tn_code tn_server_set_char(tn_server *server, uint8_t function, uint16_t value) TN_CALL((1));
 
-/* Sets or clears the terminal's flag ECHO, and says WILL or WONT ECHO where that is due. A password is hidden only at a
- * client that has agreed: tn_server_option(server, true, 1, &state) gives TN_OPTION_YES. TN_FAILED, TN_MEMORY. */
+/* Sets or clears the terminal's flag ECHO, and sends WILL or WONT ECHO if that is due (RFC 857). A password is hidden only at a client
+ * that has agreed: tn_server_option(server, true, 1, &state) gives TN_OPTION_YES.
+ *
+ * Returns: TN_FAILED, TN_MEMORY. */
 tn_code tn_server_set_echo(tn_server *server, bool on) TN_CALL((1));
 
-/* Asks for what is held at each character of the mask (RFC 1184, section 2.3), of which octets that are left out
- * are zero. TN_TOO_LONG, TN_FAILED, TN_NOT_ON, TN_MEMORY. */
+/* Asks the client to send the bytes that it holds at each character of the mask (RFC 1184, section 2.3), of at most 32 octets; those that
+ * are left out are zero.
+ *
+ * Returns: TN_TOO_LONG, TN_FAILED, TN_NOT_ON, TN_MEMORY. */
 tn_code tn_server_set_mask(tn_server *server, const uint8_t *octets, size_t length) TN_CALL((1));
 
-/* Asks for none of that any more. TN_FAILED, TN_NOT_ON, TN_MEMORY. */
+/* Asks the client to send the bytes that it holds at no character any more.
+ *
+ * Returns: TN_FAILED, TN_NOT_ON, TN_MEMORY. */
 tn_code tn_server_clear_mask(tn_server *server) TN_CALL((1));
 
-/* The kind of an entry that waits, by its place from 0 on; TN_NONE after the last. */
+/* Sets *kind to the kind of an entry that waits, by its place, from 0 on; TN_NONE after the last. */
 tn_code tn_server_waiting(const tn_server *server, size_t index, tn_kind *kind) TN_CALL((1, 3));
 
-/* Copies the text of an entry that waits, and stays; *length is 0 where none is at that place, or it is no text. */
+/* Copies the text of an entry that waits, and stays; *length is 0 if none is at that place, or it is no text. */
 tn_code tn_server_waiting_text(const tn_server *server, size_t index, uint8_t *buf, size_t size, size_t *length) TN_CALL((1, 5));
 
-/* The first signal among the entries that wait, or TN_NONE. */
+/* Sets *kind to the first signal among the entries that wait, or to TN_NONE. */
 tn_code tn_server_signal_waiting(const tn_server *server, tn_kind *kind) TN_CALL((1, 2));
 
-/* What a client changes of a server. */
+/* The facts of a server that its client changes, as bits, each with the call that returns the fact. */
 typedef enum tn_change TN_ENUM {
     TN_CHANGED_SIZE = 1,   /* tn_server_size */
     TN_CHANGED_MODE = 2,   /* tn_server_mode */
@@ -343,84 +385,102 @@ typedef enum tn_change TN_ENUM {
     TN_CHANGED_CHAR = 8    /* tn_server_char */
 } tn_change;
 
-/* Which of these are otherwise than at the last such call, or at the start: *bits is the sum of their tn_change. */
+/* Sets *bits to the sum of the tn_change of all facts that differ from those at the last such call, or at the start. */
 tn_code tn_server_changes(tn_server *server, uint32_t *bits) TN_CALL((1, 2));
 
-/* The window's size in characters; 0 is unspecified (RFC 1073). */
+/* Sets *width and *height to the window's size in characters; 0 is unspecified (RFC 1073). */
 tn_code tn_server_size(const tn_server *server, uint16_t *width, uint16_t *height) TN_CALL((1, 2, 3));
 
-/* The mode that the client acknowledged last, and the one that it was asked for. */
+/* Set *mode to the mode that the client acknowledged last, and to the one that it was asked for last. */
 tn_code tn_server_mode(const tn_server *server, uint8_t *mode) TN_CALL((1, 2));
 tn_code tn_server_asked(const tn_server *server, uint8_t *mode) TN_CALL((1, 2));
 
-/* Copies the half line, which has fewer than limit bytes. */
+/* Copies the half-typed line, which has fewer than limit bytes. */
 tn_code tn_server_half(const tn_server *server, uint8_t *buf, size_t size, size_t *length) TN_CALL((1, 4));
 
-/* A special character, or TN_NO_CHAR. TN_NO_FUNCTION. */
+/* Sets *value to a special character, or to TN_NO_CHAR if it is disabled.
+ *
+ * Returns: TN_NO_FUNCTION. */
 tn_code tn_server_char(const tn_server *server, uint8_t function, uint16_t *value) TN_CALL((1, 3));
 
-/* Where an option stands, at our side or at theirs. */
+/* Sets *state to the state of an option, at our side or at theirs. */
 tn_code tn_server_option(const tn_server *server, bool ours, uint8_t option, tn_option_state *state) TN_CALL((1, 4));
 
-/* Whether a feed was refused. */
+/* Sets *failed to whether a feed was refused. */
 tn_code tn_server_failed(const tn_server *server, bool *failed) TN_CALL((1, 2));
 
-/* ---- A client end, which edits lines where its server asks for that ---- */
+/* ---- A client end, which edits lines if its server asks for that ---- */
 
-/* An end whose window has this size in characters, 0 where a side is not known, and whose lines have at most limit
- * bytes. Nothing waits: the server speaks first. TN_STARTED, TN_NO_LIMIT, TN_MEMORY. */
+/* Puts a client end into the handle, whose window has this size in characters, 0 for a dimension that is not known, and whose lines have
+ * at most limit bytes (255 to 4,095). Nothing waits to be sent: the server begins the negotiation.
+ *
+ * Returns: TN_STARTED, TN_NO_LIMIT, TN_MEMORY. */
 tn_code tn_client_start(tn_client *client, uint16_t width, uint16_t height, uint16_t limit) TN_CALL((1));
 
-/* Types a key: what it sends waits to be read, and its echo to be shown. TN_FAILED, TN_MEMORY: nothing was typed. */
+/* Types a key: the bytes that it sends wait to be read, and its echo waits to be shown.
+ *
+ * Returns: TN_FAILED, TN_MEMORY; nothing was typed. */
 tn_code tn_client_key(tn_client *client, uint8_t key) TN_CALL((1));
 
-/* Enters a new line: types the key LF, which goes to the server as CR LF, also if keys go one at a time. Refused as a key is. */
+/* Enters a new line: types the key LF, which goes to the server as CR LF, also if keys go one at a time (RFC 1123, section 3.3.1).
+ *
+ * Returns: TN_FAILED, TN_MEMORY; nothing was typed. */
 tn_code tn_client_new_line(tn_client *client) TN_CALL((1));
 
-/* Takes bytes that came from the server, cut anywhere: answers wait to be read, text to be shown. TN_FAILED: it had
- * failed before, and all is as it was. TN_MEMORY: what came before the refusal was done, and the end has failed. */
+/* Takes a piece of the server's stream, cut anywhere: replies wait to be read, text waits to be shown.
+ *
+ * Returns:
+ * - TN_FAILED: the end had failed before, and all is as it was.
+ * - TN_MEMORY: the items before the refused one were done, and the end has failed. */
 tn_code tn_client_feed(tn_client *client, const uint8_t *bytes, size_t length) TN_CALL((1));
 
-/* How many bytes wait to be sent; and moves to buf the first of them, as many as fit, *count of them. */
+/* The first call sets *count to the number of bytes that wait to be sent. The second moves the first of them to buf, as many as fit, and
+ * sets *count to their number. */
 tn_code tn_client_pending(const tn_client *client, size_t *count) TN_CALL((1, 2));
 tn_code tn_client_read(tn_client *client, uint8_t *buf, size_t size, size_t *count) TN_CALL((1, 4));
 
-/* How many bytes wait to be shown on the user's screen; and moves to buf the first of them, as many as fit, *count of them. */
+/* The first call sets *count to the number of bytes that wait to be shown on the user's screen. The second moves the first of them to buf,
+ * as many as fit, and sets *count to their number. */
 tn_code tn_client_screen_pending(const tn_client *client, size_t *count) TN_CALL((1, 2));
 tn_code tn_client_screen(tn_client *client, uint8_t *buf, size_t size, size_t *count) TN_CALL((1, 4));
 
-/* Takes a new size of the window; the server is told where NAWS is on and it changed. TN_FAILED, TN_MEMORY. */
+/* Takes a new size of the window, in characters; it waits to be sent if NAWS is on and the size changed (RFC 1073).
+ *
+ * Returns: TN_FAILED, TN_MEMORY. */
 tn_code tn_client_resize(tn_client *client, uint16_t width, uint16_t height) TN_CALL((1));
 
-/* Proposes a special character to the server; nothing changes until it agrees. TN_NO_FUNCTION, TN_FAILED, TN_NOT_ON,
- * TN_NOT_SETTABLE, TN_RESERVED, TN_TAKEN, TN_MEMORY. */
+/* Proposes a special character to the server; nothing changes until the server acknowledges it (RFC 1184, section 2.4).
+ *
+ * Returns: TN_NO_FUNCTION, TN_FAILED, TN_NOT_ON, TN_NOT_SETTABLE, TN_RESERVED, TN_TAKEN, TN_MEMORY. */
 tn_code tn_client_propose(tn_client *client, uint8_t function, uint16_t value) TN_CALL((1));
 
 /* The commands that a client sends for its user (RFC 854, "Standard representation of control functions"). */
 typedef enum tn_command TN_ENUM {
-    TN_COMMAND_NOP = 241, /* nothing, which yet shows whether the connection stands */
+    TN_COMMAND_NOP = 241, /* no operation, which yet shows whether the connection stands */
     TN_COMMAND_BRK = 243, /* the key BREAK */
     TN_COMMAND_IP = 244,  /* interrupts the process at the server */
     TN_COMMAND_AYT = 246  /* asks whether the server is there */
 } tn_command;
 
-/* Sends a command at once, before what is held of a line, which stays as it is. TN_NO_COMMAND: it is none of these four; TN_FAILED,
- * TN_MEMORY. */
+/* Sends a command at once, before the bytes of a line that are held, which stay as they are.
+ *
+ * Returns: TN_NO_COMMAND, if it is none of these four; TN_FAILED, TN_MEMORY. */
 tn_code tn_client_send(tn_client *client, tn_command command) TN_CALL((1));
 
-/* The mode in force. */
+/* Sets *mode to the mode in force. */
 tn_code tn_client_mode(const tn_client *client, uint8_t *mode) TN_CALL((1, 2));
 
-/* Copies the bytes of the half line that are held here: with those of _ahead they are fewer than limit. */
+/* Copies the bytes of the half-typed line that the client holds: with those of _ahead they are fewer than limit. */
 tn_code tn_client_half(const tn_client *client, uint8_t *buf, size_t size, size_t *length) TN_CALL((1, 4));
 
-/* How many bytes of the half line were sent before those. */
+/* Sets *count to the number of bytes of the half-typed line that were sent before those that the client holds. */
 tn_code tn_client_ahead(const tn_client *client, uint16_t *count) TN_CALL((1, 2));
 
-/* How long a half line is that the server edits, with its ISIG set and with it clear; 0 where it is edited here. */
+/* Sets *trapped and *plain to the length of a half-typed line that the server edits, if its ISIG is set and if it is clear; 0 if the client
+ * edits. */
 tn_code tn_client_counts(const tn_client *client, uint16_t *trapped, uint16_t *plain) TN_CALL((1, 2, 3));
 
-/* As of a server. */
+/* The facts of a client that tn_server_char, tn_server_option and tn_server_failed give of a server. */
 tn_code tn_client_char(const tn_client *client, uint8_t function, uint16_t *value) TN_CALL((1, 3));
 tn_code tn_client_option(const tn_client *client, bool ours, uint8_t option, tn_option_state *state) TN_CALL((1, 4));
 tn_code tn_client_failed(const tn_client *client, bool *failed) TN_CALL((1, 2));

@@ -108,7 +108,7 @@ static bool is_passing(ssize_t done)
     return done < 0 && (errno == EAGAIN || errno == EINTR);
 }
 
-/* Sends what waits, from where it stands, as much as the socket takes. */
+/* Sends the bytes that wait, from their place, as many as the socket takes. */
 static void send_some(struct client *c)
 {
     const uint8_t *bytes = NULL;

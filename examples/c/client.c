@@ -2,8 +2,8 @@
  *
  *   cc -Iinclude examples/c/client.c out/libtn.a -o client
  *
- * Where standard input is no terminal, its bytes are typed as they come. After its end the client shows what the server
- * says until that closes the connection.
+ * If standard input is no terminal, its bytes are typed as they come. After its end the client shows the server's text
+ * until the server closes the connection.
  */
 #define _GNU_SOURCE /* ppoll */
 #include "tn.h"
@@ -122,7 +122,7 @@ static bool show(tn_client *end)
     return true;
 }
 
-/* False at the escape, and where a key was refused. */
+/* Types keys. Returns false at the escape, and if a key was refused. */
 static bool type_keys(tn_client *end, const uint8_t *keys, size_t length)
 {
     for (size_t i = 0; i < length; i++)
@@ -139,8 +139,9 @@ static bool resize(tn_client *end)
     return tn_client_resize(end, width, height) == TN_OK;
 }
 
-/* A change of the window's size is heard of while the client waits, and at no other time: so none is missed. No key is read
- * while what was typed waits to be sent, and what the server says is always read: so neither waits for the other. */
+/* Runs the client until the connection is closed. The signal for a change of the window's size comes only while the client waits, so
+ * none is missed. No key is read while typed bytes wait to be sent, and the server's bytes are always read, so neither waits for the
+ * other. */
 static void run(tn_client *end, int fd, const sigset_t *waiting)
 {
     bool has_keys = true;
@@ -164,7 +165,7 @@ static void run(tn_client *end, int fd, const sigset_t *waiting)
             if (n > 0 && !type_keys(end, piece, (size_t)n))
                 break;
             if (n <= 0)
-                has_keys = false; /* what the server says is still shown */
+                has_keys = false; /* the server's text is still shown */
         }
     }
     /* What was typed before the escape, and said before the end. */

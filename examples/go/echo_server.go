@@ -1,5 +1,5 @@
 // echo_server [PORT [remote]]: answers each line of each client in capitals, over libtn by cgo. Lines are edited at the client if it can do
-// that, and at the server if the second word is given.
+// that, and at the server if the second argument is given.
 //
 //	CGO_CFLAGS=-I$PWD/include CGO_LDFLAGS=$PWD/out/libtn.a go build -o echo_server examples/go/echo_server.go
 package main
@@ -71,7 +71,7 @@ func (s *server) say(text []byte) error {
 	}
 }
 
-// Sends all that waits, from where it stands.
+// Sends all bytes that wait, from their place.
 func (s *server) send(to io.Writer) error {
 	var at *C.uint8_t
 	var count C.size_t

@@ -54,7 +54,7 @@ def looks(server, client):
 
 
 def floods(server):
-    """Entries that are more than may wait are kept; output is sent from where it stands."""
+    """Entries beyond those that may wait are kept; output is sent without a copy."""
     server.feed(memoryview(b"\n" * 5000 + b"\x03x\r\0"))
     assert server.signal_waiting() == tn.INT and server.waiting(0) == (tn.TEXT, b"\n") and server.waiting(5001) == (tn.TEXT, b"x\n")
     assert server.waiting(5002) == (tn.NONE, None) and [server.take()[1] for _ in range(5000)] == [b"\n"] * 5000

@@ -31,7 +31,7 @@ class Handle(ctypes.Structure):
 
 
 class Flags(ctypes.Structure):
-    """A terminal's flags; those of tn.h's TN_STANDARD_FLAGS where none are named."""
+    """A terminal's flags; those of tn.h's TN_STANDARD_FLAGS if none are named."""
 
     _fields_ = [(name, c_bool) for name in
                 ("icrnl", "inlcr", "igncr", "isig", "echo", "echoe", "echok", "echonl", "tostop", "opost", "onlcr")]
@@ -46,7 +46,7 @@ class Item(ctypes.Structure):
 
 
 class Refused(Exception):
-    """A call was refused; `code` says why, and str() names the call and says it in words."""
+    """A call was refused; `code` is one of tn.h, and str() names the call and the code's text."""
 
     def __init__(self, call, code):
         super().__init__(f"{call}: {code_text(code)} (code {code})")
@@ -55,7 +55,7 @@ class Refused(Exception):
 
 HANDLE, BYTES, BUFFER = POINTER(Handle), (c_void_p, c_size_t), (POINTER(c_uint8), c_size_t, POINTER(c_size_t))
 
-# The parameters of each call behind its handle.
+# The parameters of each call after its handle.
 CALLS = {
     "line_start": (POINTER(Flags), c_uint16),
     "line_key": (c_uint8, POINTER(c_uint32)),
@@ -140,17 +140,17 @@ _library.tn_code_text.restype = c_char_p
 
 
 def code_text(code):
-    """A few words on a code."""
+    """Returns a short English text for a code."""
     return _library.tn_code_text(code).decode()
 
 
 def version():
-    """10,000 times the first number of the library's version, 100 times its second, and its third."""
+    """Returns the library's version: 10,000 times its first number, plus 100 times its second, plus its third."""
     return _library.tn_version()
 
 
 def _given(data):
-    """What BYTES are for this; bytes are lent as they are, and others are copied."""
+    """Returns the argument for BYTES; bytes are lent as they are, and others are copied."""
     data = data if isinstance(data, bytes) else bytes(data)
     return data, len(data)
 
@@ -181,7 +181,7 @@ def subnegotiation(number, parameters):
 
 
 class _Held:
-    """What all four share. A handle is never copied: it lives and moves with its object."""
+    """The parts that all four share. A handle is never copied: it lives and moves with its object."""
 
     kind = ""
 
@@ -207,27 +207,27 @@ class _Held:
             raise Refused(f"tn_{self.kind}_{name}", code)
 
     def _value(self, name, made, *arguments):
-        """What a call gives through its last pointer, of this type."""
+        """Returns the value that a call gives through its last pointer, of this type."""
         value = made()
         self._call(name, *arguments, byref(value))
         return value.value
 
     def _bytes(self, name, size, *arguments):
-        """What a call moves or copies to a buffer of this size."""
+        """Returns the bytes that a call moves or copies to a buffer of this size."""
         buf, count = (c_uint8 * max(size, 1))(), c_size_t()
         self._call(name, *arguments, buf, size, byref(count))
         return bytes(memoryview(buf)[: count.value])
 
 
 class _Edited(_Held):
-    """What a line and both ends share."""
+    """The parts that a line and both ends share."""
 
     def half(self):
-        """The bytes of the half line that are held."""
+        """Returns the bytes of the half-typed line that are held."""
         return self._bytes("half", self._limit)
 
     def char(self, function):
-        """A special character, or NO_CHAR."""
+        """Returns a special character, or NO_CHAR."""
         return self._value("char", c_uint16, function)
 
 
@@ -241,12 +241,12 @@ class Line(_Edited):
         self._limit = limit
 
     def key(self, key):
-        """What the key did, and the text that it gave, if any."""
+        """Types a key. Returns its effect, and the text that it gave, if any."""
         effect = self._value("key", c_uint32, key)
         return effect, self._bytes("text", self._limit) if effect == TEXT else None
 
     def echo(self):
-        """What a terminal shows of the last key."""
+        """Returns the bytes that a terminal shows of the last key."""
         return self._bytes("echo", 6)
 
     def set_flags(self, flags):
@@ -276,31 +276,31 @@ class Decoder(_Held):
         self._call("feed", *_given(piece))
 
     def take_run(self, most=4096):
-        """The bytes of data that stand first, as many as came together and at most so many."""
+        """Returns the bytes of data that come first, as many as came together and at most this number."""
         return self._bytes("take_run", most)
 
 
 class _End(_Edited):
-    """What both ends share."""
+    """The parts that both ends share."""
 
     def feed(self, piece):
         """Takes bytes that came, cut anywhere."""
         self._call("feed", *_given(piece))
 
     def pending(self):
-        """How many bytes wait to be sent."""
+        """Returns the number of bytes that wait to be sent."""
         return self._value("pending", c_size_t)
 
     def read(self):
-        """All that waits to be sent."""
+        """Returns all bytes that wait to be sent."""
         return self._bytes("read", self.pending())
 
     def option(self, ours, option):
-        """Where an option stands, at our side or at theirs."""
+        """Returns the state of an option, at our side or at theirs."""
         return self._value("option", c_uint32, ours, option)
 
     def mode(self):
-        """The mode in force."""
+        """Returns the mode in force."""
         return self._value("mode", c_uint8)
 
     def failed(self):
@@ -308,7 +308,7 @@ class _End(_Edited):
 
 
 class Server(_End):
-    """A server end, with the terminal behind it."""
+    """A server end, with its terminal."""
 
     kind = "server"
 
@@ -318,7 +318,7 @@ class Server(_End):
         self._taken = collections.deque()  # entries that were taken, to make room for others
 
     def feed(self, piece):
-        """Takes bytes that came, cut anywhere and as many as there are: entries that are more than may wait are kept in this object."""
+        """Takes bytes that came, cut anywhere and as many as there are: entries beyond those that may wait are kept in this object."""
         data, length = _given(piece)
         at = ctypes.cast(c_char_p(data), c_void_p).value
         while True:
@@ -338,11 +338,11 @@ class Server(_End):
         return kind, self._bytes("text", self._limit) if kind == TEXT else None
 
     def take(self):
-        """The first entry's kind, and its text, if it is one; NONE if no entry waits."""
+        """Takes the first entry. Returns its kind, and its text, if it is one; NONE if no entry waits."""
         return self._taken.popleft() if self._taken else self._take()
 
     def waiting(self, index):
-        """The kind and the text of an entry that waits, by its place from 0 on, which stays; NONE after the last."""
+        """Returns the kind and the text of an entry that waits, by its place from 0 on; it stays. NONE after the last."""
         if index < len(self._taken):
             return self._taken[index]
         index -= len(self._taken)
@@ -350,7 +350,7 @@ class Server(_End):
         return kind, self._bytes("waiting_text", self._limit, index) if kind == TEXT else None
 
     def signal_waiting(self):
-        """The first signal among the entries that wait, or NONE."""
+        """Returns the first signal among the entries that wait, or NONE."""
         taken = (kind for kind, _ in self._taken if kind in (INT, QUIT, TSTP))
         return next(taken, None) or self._value("signal_waiting", c_uint32)
 
@@ -359,7 +359,7 @@ class Server(_End):
         self._call("forget")
 
     def write(self, output):
-        """Writes to the screen and spells it, all of it; echo comes by this too, also if nothing is written."""
+        """Writes all of it to the screen, and spells the screen, the echo too, even if nothing is written."""
         data, length = _given(output)
         at = ctypes.cast(c_char_p(data), c_void_p).value
         while True:
@@ -369,15 +369,15 @@ class Server(_End):
                 return
 
     def write_some(self, output):
-        """Writes to the screen, and spells nothing of it; how many bytes found room."""
+        """Writes to the screen, and spells nothing of it. Returns how many bytes found room."""
         return self._value("write", c_size_t, *_given(output))
 
     def pull(self, most=4096):
-        """Spells the first symbols of the screen; how many."""
+        """Spells the first symbols of the screen, and returns how many."""
         return self._value("pull", c_size_t, most)
 
     def send_to(self, send):
-        """Sends what waits from where it stands, without a copy, and returns how many bytes went: `send` is given a memoryview and returns
+        """Sends the bytes that wait, without a copy, and returns how many bytes went: `send` is given a memoryview and returns
         that number, as socket.send does. It keeps no part of the memoryview, and calls nothing of this end."""
         at, count = POINTER(c_uint8)(), c_size_t()
         self._call("peek", byref(at), byref(count))
@@ -389,7 +389,7 @@ class Server(_End):
         return done
 
     def wish(self, at_client):
-        """Wishes for lines that are edited at the client; whether a MODE waits to be sent for it."""
+        """Requests that the client, or the server, edit lines, and returns whether a MODE waits to be sent for it."""
         return self._value("wish", c_bool, at_client)
 
     def set_echo(self, on):
@@ -401,24 +401,24 @@ class Server(_End):
         self._call("set_char", function, value)
 
     def set_mask(self, octets):
-        """Asks for what is held at each character of this mask, or by None at none any more."""
+        """Asks the client to send the bytes that it holds at each character of this mask, or by None at none any more."""
         if octets is None:
             self._call("clear_mask")
         else:
             self._call("set_mask", *_given(octets))
 
     def changes(self):
-        """The sum of the CHANGED_ of what is otherwise than at the last such call, or at the start."""
+        """Returns the sum of the CHANGED_ of all that differs from the last such call, or from the start."""
         return self._value("changes", c_uint32)
 
     def size(self):
-        """The window's width and height in characters; 0 is unspecified."""
+        """Returns the window's width and height in characters; 0 is unspecified."""
         width, height = c_uint16(), c_uint16()
         self._call("size", byref(width), byref(height))
         return width.value, height.value
 
     def asked(self):
-        """The mode that the client was asked for."""
+        """Returns the mode that the client was asked for last."""
         return self._value("asked", c_uint8)
 
 
@@ -441,11 +441,11 @@ class Client(_End):
         self._call("new_line")
 
     def screen(self):
-        """All that waits to be shown."""
+        """Returns all bytes that wait to be shown."""
         return self._bytes("screen", self.screen_pending())
 
     def screen_pending(self):
-        """How many bytes wait to be shown."""
+        """Returns the number of bytes that wait to be shown."""
         return self._value("screen_pending", c_size_t)
 
     def resize(self, width, height):
@@ -457,15 +457,15 @@ class Client(_End):
         self._call("propose", function, value)
 
     def ahead(self):
-        """How many bytes of the half line were sent before those that are held."""
+        """Returns the number of bytes of the half-typed line that were sent before those that are held."""
         return self._value("ahead", c_uint16)
 
     def counts(self):
-        """How long a half line is that the server edits, with its ISIG set and with it clear."""
+        """Returns the length of a half-typed line that the server edits, if its ISIG is set and if it is clear."""
         trapped, plain = c_uint16(), c_uint16()
         self._call("counts", byref(trapped), byref(plain))
         return trapped.value, plain.value
 
     def send(self, command):
-        """Sends a command, before what is held of a line, which stays as it is."""
+        """Sends a command, before the bytes of a line that are held, which stay as they are."""
         self._call("send", command)

@@ -1,5 +1,5 @@
 //! echo_server [PORT [remote]]: answers each line of each client in capitals, over the crate `tn`, a wrapper of `libtn`.
-//! Lines are edited at the client if it can do that, and here where the second word is given.
+//! Lines are edited at the client if it can do that, and at the server if the second argument is given.
 //!
 //!     cd examples/rust && TN_LIB_DIR=$PWD/../../out cargo run -- 2323
 
@@ -7,7 +7,7 @@ use std::io::{Read, Write};
 use std::net::{Shutdown, TcpListener, TcpStream};
 use tn::{Entry, Refused, Server, STANDARD_FLAGS};
 
-/// Runs the job over what has come. True where it has ended.
+/// Runs the job over the entries that have come. Returns whether it has ended.
 fn run_job(server: &mut Server) -> Result<bool, Refused> {
     server.write(&[])?; // the echo
     while let Some(entry) = server.take()? {
@@ -28,7 +28,7 @@ fn serve(stream: &mut TcpStream, is_local: bool) -> Result<(), Refused> {
     let mut fed = Ok(());
     loop {
         let has_ended = run_job(&mut server);
-        // What waits is sent where a feed was refused, too.
+        // The bytes that wait are sent even if a feed was refused.
         let is_sent = stream.write_all(&server.read()?).is_ok();
         fed?;
         if has_ended? || !is_sent {

@@ -5,12 +5,12 @@
 //! text 61630a
 //! ```
 //!
-//! Its words, its statuses and what it tells on standard error are in the manual page, `docs/tn.1`. The
-//! words are read by `tn_cli::arguments`, and what they ask for is done by `tn_program`: here the handle of the
-//! runtime, the words and the streams are handed on, and the status comes back.
+//! The manual page, `docs/tn.1`, has its arguments, its statuses and its lines on standard error.
+//! `tn_cli::arguments` reads the arguments, and `tn_program` does the run: this file passes on the handle of
+//! the runtime, the arguments and the streams, and returns the status.
 //!
-//! It sets no terminal to raw mode, which the launcher `./tn` does for `connect`. It asks for no password,
-//! encrypts nothing, and reads no urgent data.
+//! It sets no terminal to raw mode, which the launcher `./tn` does for `connect`. It asks for no
+//! password, encrypts nothing, and reads no urgent data.
 #![tactic(auto)]
 
 use std::alloc::{AllocError, Global};
@@ -26,20 +26,22 @@ use tn_program::{
     Streams, editor_settings, own_characters, run_words,
 };
 
-/// The environment variable by which the launcher says that standard input is a terminal, raw once the
-/// connection stands.
+/// The environment variable by which the launcher reports that standard input is a terminal, raw
+/// once the connection stands.
 const TERMINAL: &str = "TN_TERMINAL";
 
-/// The environment variable by which the launcher names the pipe that tells the sizes of the window.
+/// The environment variable by which the launcher names the pipe that brings the sizes of the
+/// window.
 const SIZES: &str = "TN_SIZES";
 
-/// The environment variable by which the launcher names the pipe in which it hears that a connection stands.
+/// The environment variable by which the launcher names the pipe on which it receives that a
+/// connection stands.
 const STANDS: &str = "TN_STANDS";
 
-/// The environment variable by which the launcher tells the special characters of the terminal.
+/// The environment variable by which the launcher passes the special characters of the terminal.
 const KEYS: &str = "TN_KEYS";
 
-/// The environment variable by which the launcher tells how the terminal edits lines.
+/// The environment variable by which the launcher passes how the terminal edits lines.
 const EDITS: &str = "TN_EDITS";
 
 /// The environment variable that systemd sets if standard error goes to its journal (systemd.exec(5)).
@@ -48,13 +50,13 @@ const JOURNAL: &str = "JOURNAL_STREAM";
 /// The terminal that a process was started at (POSIX).
 const TERMINAL_PATH: &str = "/dev/tty";
 
-/// What is read as nothing, and drops what is written (POSIX).
+/// The path of the file that is read as nothing, and drops what is written (POSIX).
 const NULL_PATH: &str = "/dev/null";
 
 /// The descriptor of standard error (POSIX), which is the last of the standard streams.
 const LAST_STANDARD: i32 = 2;
 
-/// How many bytes the path of such a pipe has at most.
+/// The most bytes of the path of such a pipe.
 const MAX_PATH: usize = 4_096;
 
 /// The status when out of memory before anything is run.
@@ -82,7 +84,8 @@ fn origin_of(rt: &HostRuntime) -> KeySource {
     }
 }
 
-// The special characters of the terminal. Where they are not told, the standard ones are taken.
+// Returns the special characters of the terminal. If the launcher passes none, the standard ones
+// are taken.
 fn own_of(rt: &HostRuntime) -> OwnCharacters {
     let mut text = [0; OWN_LENGTH];
     let told = match rt.var(KEYS, &mut text) {
@@ -98,7 +101,8 @@ fn own_of(rt: &HostRuntime) -> OwnCharacters {
     told.unwrap_or(OwnCharacters::none())
 }
 
-// How the terminal edits lines. If that is not told, as at a new terminal.
+// Returns how the terminal edits lines. If the launcher does not pass it, it is as at a new
+// terminal.
 fn editor_of(rt: &HostRuntime) -> EditorSettings {
     let mut text = [0; EDITS_LENGTH];
     let told = match rt.var(EDITS, &mut text) {
@@ -108,7 +112,7 @@ fn editor_of(rt: &HostRuntime) -> EditorSettings {
     told.unwrap_or(EditorSettings::usual())
 }
 
-// The pipe that tells the sizes of the window, if there is one.
+// Opens the pipe that brings the sizes of the window, if there is one.
 fn sizes_of<R: Env + Files<File = File>>(rt: &R) -> Option<File> {
     let mut path = [0; MAX_PATH];
     let count = rt.var(SIZES, &mut path).ok()?;
@@ -116,7 +120,7 @@ fn sizes_of<R: Env + Files<File = File>>(rt: &R) -> Option<File> {
     File::open(rt, path).ok()
 }
 
-// The pipe that is told once a connection stands, if there is one.
+// Opens the pipe that gets a line once a connection stands, if there is one.
 fn stands_of<R: Env + Files<File = File>>(rt: &R) -> Option<File> {
     let mut path = [0; MAX_PATH];
     let count = rt.var(STANDS, &mut path).ok()?;
@@ -124,12 +128,12 @@ fn stands_of<R: Env + Files<File = File>>(rt: &R) -> Option<File> {
     File::create(rt, path).ok()
 }
 
-// Whether an environment variable is set, to whatever text.
+// Returns whether an environment variable is set, to any text.
 fn is_set<R: Env>(rt: &R, name: &str) -> bool {
     !matches!(rt.var(name, &mut []), Err(FillError::NotPresent))
 }
 
-// The terminal that keys are typed at, though standard output may be a file.
+// Opens the terminal at which keys are typed, though standard output may be a file.
 fn terminal_of<R: Files<File = File>>(rt: &R, origin: KeySource) -> Option<File> {
     match origin {
         KeySource::Terminal(_) => OpenOptions::new().write(true).open(rt, TERMINAL_PATH).ok(),
@@ -137,14 +141,14 @@ fn terminal_of<R: Files<File = File>>(rt: &R, origin: KeySource) -> Option<File>
     }
 }
 
-// A connection that is to be, for the keys and for the screen.
+// Makes the state of a connection that is to be, for the keys and for the screen.
 fn links(alloc: Global) -> Result<(Arc<Link, Global>, Arc<Link, Global>), AllocError> {
     let link = Arc::new(alloc, Link::new())?;
     let linked = Arc::try_clone(&link)?;
     Ok((link, linked))
 }
 
-// Whether the words are those of `connect`.
+// Returns whether the arguments are those of `connect`.
 fn is_session(words: &io::Result<Vec<String>>) -> bool {
     match words {
         Ok(words) => match words.get(1) {
@@ -155,8 +159,8 @@ fn is_session(words: &io::Result<Vec<String>>) -> bool {
     }
 }
 
-// The words that these stand for by the user's file of hosts, or the status to end with. At a terminal the
-// launcher has asked for them.
+// Returns the arguments that these stand for by the user's file of hosts, or the status to end
+// with. At a terminal the launcher has asked for them.
 fn expanded(
     rt: &HostRuntime,
     alloc: Global,

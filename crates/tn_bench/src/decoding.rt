@@ -6,18 +6,18 @@ use std::io::Write;
 use std::time::Clock;
 use tn_nvt::{Decoder, Item, Params, Refused, Sink};
 
-/// How many bytes a piece has.
+/// The number of bytes of a piece.
 const PIECE: usize = 4_096;
 
 /// A line of 62 characters and its end.
 const LINE: &[u8; 64] = b"the quick brown fox jumps over the lazy dog, and all is as was\r\n";
 
-/// A byte 255, a return, a word, a command, a size and some text.
+/// A byte 255, a return, an option message, a command, a size and some text.
 pub(crate) const MIX: &[u8; 32] =
     b"ab\xff\xffcd\r\0ef\xff\xfb\x01gh\xff\xf1ij\xff\xfa\x1f\0\x50\0\x18\xff\xf0kl\r\n";
 
-/// Counts what it is handed, and wraps, since a sum that does not costs four instructions a call in place of
-/// one. A subnegotiation's parameters stay where they are, as libtelnet's do.
+/// Counts the items that it gets, and wraps, since a sum that does not costs four instructions a
+/// call in place of one. A subnegotiation's parameters stay where they are, as libtelnet's do.
 #[derive(Drop)]
 struct Counter {
     wholes: u64,

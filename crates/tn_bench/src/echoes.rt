@@ -11,13 +11,13 @@ use tn_serve::services::Answerers;
 use tn_serve::{Host, SessionOptions, serve_connection};
 use tn_server::Editing;
 
-/// The length of a server's opening words.
+/// The length of a server's opening messages.
 const OPENING: usize = 15;
 
 /// WONT LINEMODE, WONT NAWS, both SUPPRESS-GO-AHEAD, and DO ECHO.
 const ANSWERS: &[u8; 15] = b"\xff\xfc\x22\xff\xfc\x1f\xff\xfd\x03\xff\xfb\x03\xff\xfd\x01";
 
-/// What is sent at once, and how many bytes come back.
+/// The bytes that are sent at once, and the number of bytes that come back.
 type Question = (&'static [u8], usize);
 
 /// A byte that comes back.
@@ -29,7 +29,7 @@ const KEYS: &[Question; 2] = &[(b"x", 1), (b"\x7f", 3)];
 /// A line, its echo, and the job's answer, which is the line.
 const LINE: &[Question; 1] = &[(b"x\r\0", 6)];
 
-/// Who answers at the other end of a connection.
+/// The program at the other end of a connection that answers.
 #[derive(Clone, Copy)]
 enum Who {
     /// A thread that sends back what arrives.
@@ -150,7 +150,7 @@ fn answer<H: Host>(rt: H, alloc: Global, peer: TcpStream, who: Who) -> bool {
     }
 }
 
-// What is sent over a connection comes back from a thread of this program.
+// Measures bytes that a thread of this program sends back over a connection.
 fn over<H, W: Write>(
     rt: H,
     alloc: Global,

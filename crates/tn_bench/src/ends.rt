@@ -9,20 +9,20 @@ use tn_client::{ClientEnd, ClientFault};
 use tn_discipline::{Limit, Settings};
 use tn_server::{Editing, ServerEnd, ServerFault};
 
-/// How many bytes a piece has.
+/// The number of bytes of a piece.
 const PIECE: usize = 4_096;
 
 /// A line of 62 characters and its end, as a client that edits sends it.
 const EDITED: &[u8; 64] = b"the quick brown fox jumps over the lazy dog, and all is as was\r\n";
 
-/// The same, as the keys of a client that does not edit.
+/// The lines above as the keys of a client that does not edit.
 pub(crate) const KEYS: &[u8; 64] =
     b"the quick brown fox jumps over the lazy dog, and all is as was\r\0";
 
 /// A line of a job's output.
 const OUTPUT: &[u8; 64] = b"the quick brown fox jumps over the lazy dog, and all is as was.\n";
 
-/// What a client answers to the opening words: LINEMODE, its size, both SUPPRESS-GO-AHEAD, ECHO.
+/// A client's answers to the opening messages: LINEMODE, its size, both SUPPRESS-GO-AHEAD, ECHO.
 const ANSWERS: &[u8; 24] =
     b"\xff\xfb\x22\xff\xfb\x1f\xff\xfa\x1f\0\x50\0\x18\xff\xf0\xff\xfd\x03\xff\xfb\x03\xff\xfd\x01";
 
@@ -169,7 +169,7 @@ impl Workload for Serving {
     }
 }
 
-// The client agrees to everything, and edits where that is asked for.
+// Lets the client agree to everything, and edit if that is asked for.
 fn agree(end: &mut ServerEnd, editing: Editing, out: &mut Vec<u8>) -> Result<(), Stuck> {
     end.feed(ANSWERS, out)?;
     if let Editing::Local = editing {
@@ -179,7 +179,7 @@ fn agree(end: &mut ServerEnd, editing: Editing, out: &mut Vec<u8>) -> Result<(),
     Ok(())
 }
 
-/// A server whose client sends these bytes so many times over.
+/// Makes a server whose client sends these bytes this number of times.
 pub(crate) fn make_server(
     alloc: Global,
     bytes: &[u8],
@@ -194,7 +194,7 @@ pub(crate) fn make_server(
     Ok(Serving { end, stream, out })
 }
 
-// A client whose server writes these bytes so many times over.
+// Makes a client whose server writes these bytes this number of times.
 fn make_client(alloc: Global, bytes: &[u8], times: u32) -> Result<Showing, Stuck> {
     let end = ClientEnd::start(alloc, 80, 24, Limit::standard())?;
     let stream = repeated(alloc, bytes, times)?;
@@ -274,7 +274,7 @@ fn serve<H: Clock, W: Write>(
     bench.tell(name, load)
 }
 
-// What the library for C does by one call after another, with no C between.
+// Makes the calls of the library for C one after another, with no C between.
 fn read_to_buffers<H: Clock, W: Write>(
     alloc: Global,
     bench: &mut Bench<'_, H, W>,

@@ -1,5 +1,5 @@
-//! How cost grows: the same work with few and many sessions, with short and long lines, and with few and
-//! many waiting entries. The cost of a byte should stay the same.
+//! The growth of cost: equal work with few and many sessions, with short and long lines, and with
+//! few and many waiting entries. The cost of a byte should stay the same.
 
 use crate::ends::{KEYS, Serving, make_server};
 use crate::measure::{Bench, Done, Stuck, Workload};
@@ -10,10 +10,10 @@ use std::time::Clock;
 use tn_discipline::Limit;
 use tn_server::Editing;
 
-/// How often the sessions are fed, all together.
+/// The number of feeds of the sessions, all together.
 const TURNS: usize = 256;
 
-/// How many lines of 64 keys a piece has.
+/// The number of lines of 64 keys in a piece.
 const LINES: u32 = 16;
 
 /// Servers side by side, fed in turn.

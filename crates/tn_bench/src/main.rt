@@ -1,6 +1,6 @@
-//! How fast each part of `tn` is. Each workload makes its own input. Without arguments a little of each is
-//! done, and what was done is printed. With `long` much of each is done, and its speed is printed; with
-//! `echoes` the same, but only of the workloads over connections.
+//! The speed of each part of `tn`. Each workload makes its own input. Without arguments a little of
+//! each is done, and what was done is printed. With `long` much of each is done, and its speed is
+//! printed; with `echoes` only of the workloads over connections.
 #![tactic(auto)]
 
 use crate::measure::{Bench, Stuck};
@@ -30,13 +30,13 @@ fn main(rt: HostRuntime) -> ExitCode {
     }
 }
 
-/// What is to be measured.
+/// The workloads to be measured.
 #[derive(Clone, Copy, PartialEq, Eq)]
 enum Wanted {
     /// A little of each workload; its counts are printed.
     Counts,
     All,
-    /// What goes over connections.
+    /// The workloads over connections.
     Echoes,
 }
 

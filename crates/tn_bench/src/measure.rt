@@ -1,4 +1,4 @@
-//! What a workload did, and how long it took.
+//! The work that a workload did, and the time that it took.
 
 use std::alloc::{AllocError, AllocFailed, Global};
 use std::io;
@@ -6,13 +6,13 @@ use std::io::Write;
 use std::thread::SpawnError;
 use std::time::{Clock, Duration};
 
-/// How many rounds a long run has; the fastest is printed.
+/// The number of rounds of a long run; the fastest is printed.
 const ROUNDS: u32 = 8;
 
 /// The least time that a round takes, in nanoseconds.
 const ROUND: u128 = 60_000_000;
 
-/// How many questions a long run asks where each answer is waited for.
+/// The number of questions of a long run if each answer is waited for.
 const ASKED: u64 = 4_000;
 
 /// A workload could not be done, or its line could not be printed.
@@ -43,7 +43,8 @@ impl From<io::Error> for Stuck {
     }
 }
 
-/// How many bytes were handed in, and how many units came out: lines, items, or runs of plain bytes.
+/// The number of bytes that were passed in, and of units that came out: lines, items, or runs of
+/// plain bytes.
 #[derive(Clone, Copy)]
 pub(crate) struct Done {
     pub(crate) bytes: u64,
@@ -67,7 +68,7 @@ impl Done {
     }
 }
 
-/// How long some work took, in nanoseconds.
+/// The time that some work took, in nanoseconds.
 #[derive(Clone, Copy)]
 struct Round {
     done: Done,
@@ -195,7 +196,7 @@ fn nanoseconds_at(times: &[Duration], place: usize) -> u128 {
     times.get(place).map_or(0, |time| time.as_nanos())
 }
 
-/// The same bytes again and again, so many times.
+/// Returns the bytes again and again, this number of times.
 pub(crate) fn repeated(alloc: Global, bytes: &[u8], times: u32) -> Result<Vec<u8>, AllocError> {
     let mut all = Vec::new(alloc);
     for _ in 0..times {

@@ -7,7 +7,7 @@ use std::time::Clock;
 use tn_discipline::{Limit, Settings, Symbol};
 use tn_pty::Pair;
 
-/// How many lines are typed in one pass.
+/// The number of lines that are typed in one pass.
 const LINES: u32 = 256;
 
 /// Types the same line again and again, takes a line each time, and pulls what is shown.
@@ -46,8 +46,8 @@ impl Workload for Typing {
     }
 }
 
-/// The keys of a line of so many bytes, the closing one included. Every third is ERASE where that is
-/// asked for.
+/// Returns the keys of a line of this number of bytes, the closing one included. Every third is
+/// ERASE if that is asked for.
 pub(crate) fn line_of(alloc: Global, length: u32, erases: bool) -> Result<Vec<u8>, AllocError> {
     let mut keys = Vec::new(alloc);
     for place in 1..length {
@@ -57,7 +57,8 @@ pub(crate) fn line_of(alloc: Global, length: u32, erases: bool) -> Result<Vec<u8
     Ok(keys)
 }
 
-/// Keys at a terminal whose lines have at most so many bytes, and where so many entries wait already.
+/// Makes keys at a terminal whose lines have at most this number of bytes, and at which this number
+/// of entries wait already.
 pub(crate) fn make_typing(
     alloc: Global,
     limit: Limit,

@@ -7,7 +7,7 @@ use std::time::Clock;
 use tn_discipline::{Limit, Settings};
 use tn_world::{Event, World, WorldFault};
 
-/// How many lines are typed in one world.
+/// The number of lines that are typed in one world.
 const LINES: u32 = 256;
 
 impl From<WorldFault> for Stuck {

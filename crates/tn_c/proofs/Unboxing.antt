@@ -1,4 +1,5 @@
--- What a box is made of owns what the box owned: both are one machine value, an address beside a handle of the allocator.
+-- The parts of a box own what the box owned: both are one machine value, an address next to a handle of the
+-- allocator.
 use Prim.Native.Nat.{ℕ}
 use mathlib.Core.List.{[], ◌∷◌}
 use mir.Syntax.{Args, Dict, a_type, dcons, dnil}
@@ -17,10 +18,10 @@ module _ (E : Bx) where
   abbrev pub boxed : ℕ → ℕ → E.al.row.Denot → X E → D E
   boxed b o handle value = record { ptr = block_ptr b o; alloc = handle; value = value }
 
-  -- its parts
+  -- the parts of a box of this value at this place
   abbrev pub parted : ℕ → ℕ → E.al.row.Denot → X E → Parts.Denot
   parted b o handle value = record { at = block_ptr b o; alloc = handle; value = value }
 
-  -- what a call passes for the box's parameters, and for the drop of what is boxed
+  -- the arguments of a call for the box's parameters, and for the drop of the boxed value
   abbrev pub dropping : Dict → Args
   dropping glue = bounded (a_type ∷ a_type ∷ []) (E.row, (E.al.row, tt)) (dcons E.al.d (dcons E.al.drops (dcons glue dnil)))

@@ -1,5 +1,5 @@
--- What a handle holds, what a call does to it where that is of the call's kind, and why the call is refused
--- where it is not.
+-- The content of a handle, the effect of a call on it if it is of the call's kind, and why the call is
+-- refused if it is not.
 use Rattle.std.specs.Prelude.{◌≡◌, ◌≢◌, ◌⊎◌, ℕ, Bool, IsTrue, Option, Some, None, IfSome, if◌then◌else◌}
 use Rattle.tn_c.specs.{parts.{Codes.{code_number, Answers}, Items.ReadStream}, declared.parts.codes.Code.Code}
 use Rattle.tn_c.specs.declared.parts.codes.Code.TheVariants.{Done, Memory, NotStarted, Started, OtherKind}
@@ -12,12 +12,13 @@ abbrev pub HoldsLine : Option Held → (HeldLine → Type 0) → Type 0
 HoldsLine (Some (held.Line line)) F = F line
 HoldsLine _ F = ⊥
 
--- where a line was held, one is held, and this relates the two
+-- if a line was held, one is held, and this relates the two
 abbrev pub OnLine : Option Held → Option Held → (HeldLine → HeldLine → Type 0) → Type 0
 OnLine (Some (held.Line before)) (Some (held.Line after)) F = F before after
 OnLine (Some (held.Line before)) _ F = ⊥
 OnLine _ _ F = Unit {0}
 
+-- why the handle holds no line, if it holds none
 abbrev pub line_absence : Option Held → Option Code
 line_absence None = Some NotStarted
 line_absence (Some (held.Line line)) = None
@@ -28,12 +29,13 @@ abbrev pub HoldsDecoder : Option Held → (ReadStream → Type 0) → Type 0
 HoldsDecoder (Some (held.Decoder decoder)) F = F decoder
 HoldsDecoder _ F = ⊥
 
--- where a decoder was held, one is held, and this relates the two
+-- if a decoder was held, one is held, and this relates the two
 abbrev pub OnDecoder : Option Held → Option Held → (ReadStream → ReadStream → Type 0) → Type 0
 OnDecoder (Some (held.Decoder before)) (Some (held.Decoder after)) F = F before after
 OnDecoder (Some (held.Decoder before)) _ F = ⊥
 OnDecoder _ _ F = Unit {0}
 
+-- why the handle holds no decoder, if it holds none
 abbrev pub decoder_absence : Option Held → Option Code
 decoder_absence None = Some NotStarted
 decoder_absence (Some (held.Decoder decoder)) = None
@@ -44,12 +46,13 @@ abbrev pub HoldsServer : Option Held → (HeldServer → Type 0) → Type 0
 HoldsServer (Some (held.Server server)) F = F server
 HoldsServer _ F = ⊥
 
--- where a server was held, one is held, and this relates the two
+-- if a server was held, one is held, and this relates the two
 abbrev pub OnServer : Option Held → Option Held → (HeldServer → HeldServer → Type 0) → Type 0
 OnServer (Some (held.Server before)) (Some (held.Server after)) F = F before after
 OnServer (Some (held.Server before)) _ F = ⊥
 OnServer _ _ F = Unit {0}
 
+-- why the handle holds no server end, if it holds none
 abbrev pub server_absence : Option Held → Option Code
 server_absence None = Some NotStarted
 server_absence (Some (held.Server server)) = None
@@ -60,12 +63,13 @@ abbrev pub HoldsClient : Option Held → (HeldClient → Type 0) → Type 0
 HoldsClient (Some (held.Client client)) F = F client
 HoldsClient _ F = ⊥
 
--- where a client was held, one is held, and this relates the two
+-- if a client was held, one is held, and this relates the two
 abbrev pub OnClient : Option Held → Option Held → (HeldClient → HeldClient → Type 0) → Type 0
 OnClient (Some (held.Client before)) (Some (held.Client after)) F = F before after
 OnClient (Some (held.Client before)) _ F = ⊥
 OnClient _ _ F = Unit {0}
 
+-- why the handle holds no client end, if it holds none
 abbrev pub client_absence : Option Held → Option Code
 client_absence None = Some NotStarted
 client_absence (Some (held.Client client)) = None

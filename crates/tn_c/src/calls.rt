@@ -1,6 +1,6 @@
-//! What each call does with its handle.
+//! The effect of each call on its handle.
 
-/// Takes out what the handle holds, calls it where it is of this kind, and puts it back.
+/// Takes out what the handle holds, calls it if it is of this kind, and puts it back.
 macro_rules! call_held {
     ($handle:ident, $alloc:ident, $kind:ident, $held:ident => $call:expr) => {{
         let Some(mut boxed) = $handle.take($alloc) else {

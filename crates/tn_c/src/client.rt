@@ -15,8 +15,8 @@ use crate::parts::{Code, HeldClient};
 use std::alloc::Global;
 use tn_discipline::Limit;
 
-/// Puts a client end into the handle, whose window has this size in characters, 0 where a side is not known,
-/// and whose lines have at most `limit` bytes, 255 to 4,095.
+/// Puts a client end into the handle, whose window has this size in characters, 0 for a dimension
+/// that is not known, and whose lines have at most `limit` bytes, 255 to 4,095.
 #[unsafe(no_mangle)]
 pub extern "C" fn tn_client_start(
     alloc: Global,
@@ -48,7 +48,7 @@ pub extern "C" fn tn_client_free(alloc: Global, handle: &mut Handle)
     handle.free(alloc);
 }
 
-/// Types a key: what it sends is to be read, and its echo is to be shown.
+/// Types a key: the bytes that it sends wait to be read, and its echo waits to be shown.
 #[unsafe(no_mangle)]
 pub extern "C" fn tn_client_key(alloc: Global, handle: &mut Handle, key: u8) -> u32
     ensures { CallsClient handle.old.held handle.new.held result NoPointer
@@ -66,7 +66,8 @@ pub extern "C" fn tn_client_new_line(alloc: Global, handle: &mut Handle) -> u32
     call_held!(handle, alloc, Client, client => client.new_line())
 }
 
-/// Takes bytes that came from the server, cut anywhere: answers are to be read, text is to be shown.
+/// Takes a piece of the server's stream, cut anywhere: replies wait to be read, text waits to be
+/// shown.
 #[unsafe(no_mangle)]
 pub extern "C" fn tn_client_feed(alloc: Global, handle: &mut Handle, bytes: &[u8]) -> u32
     ensures { CallsClient handle.old.held handle.new.held result NoPointer
@@ -75,7 +76,7 @@ pub extern "C" fn tn_client_feed(alloc: Global, handle: &mut Handle, bytes: &[u8
     call_held!(handle, alloc, Client, client => client.feed(bytes))
 }
 
-/// Takes a new size of the window, which is to be sent where NAWS is on and it changed.
+/// Takes a new size of the window, which is to be sent if NAWS is on and the size changed.
 #[unsafe(no_mangle)]
 pub extern "C" fn tn_client_resize(
     alloc: Global,
@@ -103,7 +104,8 @@ pub extern "C" fn tn_client_propose(
     call_held!(handle, alloc, Client, client => client.propose_function(function, value))
 }
 
-/// Sends the command with this number, before what is held of a line, which stays as it is.
+/// Sends the command with this number, before the bytes of a line that are held, which stay as they
+/// are.
 #[unsafe(no_mangle)]
 pub extern "C" fn tn_client_send(alloc: Global, handle: &mut Handle, command: u32) -> u32
     ensures { CallsClient handle.old.held handle.new.held result NoPointer
@@ -112,7 +114,7 @@ pub extern "C" fn tn_client_send(alloc: Global, handle: &mut Handle, command: u3
     call_held!(handle, alloc, Client, client => client.send_command(command))
 }
 
-/// Says how many bytes wait to be sent.
+/// Sets `count` to the number of bytes that wait to be sent.
 #[unsafe(no_mangle)]
 pub extern "C" fn tn_client_pending(alloc: Global, handle: &mut Handle, count: &mut usize) -> u32
     ensures { CallsClient handle.old.held handle.new.held result (count.new ≡ count.old)
@@ -121,7 +123,8 @@ pub extern "C" fn tn_client_pending(alloc: Global, handle: &mut Handle, count: &
     call_held!(handle, alloc, Client, client => { *count = client.pending.len(); Code::Done })
 }
 
-/// Moves the first bytes that are to be sent, as many as fit, and says how many; the others stay.
+/// Moves the first bytes that are to be sent, as many as fit, and sets `count` to their number; the
+/// others stay.
 #[unsafe(no_mangle)]
 pub extern "C" fn tn_client_read(
     alloc: Global,
@@ -136,7 +139,7 @@ pub extern "C" fn tn_client_read(
     call_held!(handle, alloc, Client, client => { client.read(buf, count); Code::Done })
 }
 
-/// Says how many bytes wait to be shown.
+/// Sets `count` to the number of bytes that wait to be shown.
 #[unsafe(no_mangle)]
 pub extern "C" fn tn_client_screen_pending(
     alloc: Global,
@@ -149,7 +152,8 @@ pub extern "C" fn tn_client_screen_pending(
     call_held!(handle, alloc, Client, client => { *count = client.shown.len(); Code::Done })
 }
 
-/// Moves the first bytes that are to be shown, as many as fit, and says how many; the others stay.
+/// Moves the first bytes that are to be shown, as many as fit, and sets `count` to their number;
+/// the others stay.
 #[unsafe(no_mangle)]
 pub extern "C" fn tn_client_screen(
     alloc: Global,
@@ -164,7 +168,7 @@ pub extern "C" fn tn_client_screen(
     call_held!(handle, alloc, Client, client => { client.screen(buf, count); Code::Done })
 }
 
-/// Gives the mask in force.
+/// Sets `mask` to the mask in force: EDIT (1) and TRAPSIG (2).
 #[unsafe(no_mangle)]
 pub extern "C" fn tn_client_mode(alloc: Global, handle: &mut Handle, mask: &mut u8) -> u32
     ensures { CallsClient handle.old.held handle.new.held result (mask.new ≡ mask.old)
@@ -173,7 +177,8 @@ pub extern "C" fn tn_client_mode(alloc: Global, handle: &mut Handle, mask: &mut 
     call_held!(handle, alloc, Client, client => { *mask = client.end.mode(); Code::Done })
 }
 
-/// Copies the first bytes of the half line that are held here, as many as fit, and says how many there are.
+/// Copies the first bytes of the half-typed line that the client holds, as many as fit, and sets
+/// `count` to the number of all of them.
 #[unsafe(no_mangle)]
 pub extern "C" fn tn_client_half(
     alloc: Global,
@@ -188,7 +193,8 @@ pub extern "C" fn tn_client_half(
     call_held!(handle, alloc, Client, client => { client.half(buf, count); Code::Done })
 }
 
-/// Says how many bytes of the half line were sent before those that are held.
+/// Sets `count` to the number of bytes of the half-typed line that were sent before those that are
+/// held.
 #[unsafe(no_mangle)]
 pub extern "C" fn tn_client_ahead(alloc: Global, handle: &mut Handle, count: &mut u16) -> u32
     ensures { CallsClient handle.old.held handle.new.held result (count.new ≡ count.old)
@@ -197,7 +203,8 @@ pub extern "C" fn tn_client_ahead(alloc: Global, handle: &mut Handle, count: &mu
     call_held!(handle, alloc, Client, client => { *count = client.end.ahead(); Code::Done })
 }
 
-/// Says how long a half line is that the server edits, with its ISIG set and with it clear.
+/// Sets `trapped` and `plain` to the length of a half-typed line that the server edits, if its ISIG
+/// is set and if it is clear.
 #[unsafe(no_mangle)]
 pub extern "C" fn tn_client_counts(
     alloc: Global,
@@ -212,7 +219,8 @@ pub extern "C" fn tn_client_counts(
     call_held!(handle, alloc, Client, client => { client.counts(trapped, plain); Code::Done })
 }
 
-/// Gives the special character of the function with this number.
+/// Sets `value` to the special character of the function with this number, or to 256 if it is
+/// disabled.
 #[unsafe(no_mangle)]
 pub extern "C" fn tn_client_char(
     alloc: Global,
@@ -226,7 +234,7 @@ pub extern "C" fn tn_client_char(
     call_held!(handle, alloc, Client, client => client.function_char(function, value))
 }
 
-/// Gives the number of where an option stands, at our side or at theirs.
+/// Sets `state` to the number of an option's state, at our side or at theirs.
 #[unsafe(no_mangle)]
 pub extern "C" fn tn_client_option(
     alloc: Global,
@@ -244,7 +252,7 @@ pub extern "C" fn tn_client_option(
     )
 }
 
-/// Says whether a feed was refused.
+/// Sets `failed` to whether a feed was refused.
 #[unsafe(no_mangle)]
 pub extern "C" fn tn_client_failed(alloc: Global, handle: &mut Handle, failed: &mut bool) -> u32
     ensures { CallsClient handle.old.held handle.new.held result (failed.new ≡ failed.old)

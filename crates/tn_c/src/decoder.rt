@@ -49,7 +49,8 @@ pub extern "C" fn tn_decoder_take(alloc: Global, handle: &mut Handle, item: &mut
     call_held!(handle, alloc, Decoder, decoder => { decoder.take(item); Code::Done })
 }
 
-/// Moves the first bytes of data that wait, as many as stand together and fit, and says how many.
+/// Moves the first bytes of data that wait, as many as stand together and fit, and sets `count` to
+/// their number.
 #[unsafe(no_mangle)]
 pub extern "C" fn tn_decoder_take_run(
     alloc: Global,
@@ -64,7 +65,8 @@ pub extern "C" fn tn_decoder_take_run(
     call_held!(handle, alloc, Decoder, decoder => { decoder.take_run(buf, count); Code::Done })
 }
 
-/// Copies the first parameters of the item that was taken last, as many as fit, and says how many there are.
+/// Copies the first parameters of the item that was taken last, as many as fit, and sets `count` to
+/// the number of all of them.
 #[unsafe(no_mangle)]
 pub extern "C" fn tn_decoder_parameters(
     alloc: Global,

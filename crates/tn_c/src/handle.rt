@@ -1,4 +1,4 @@
-//! The handle that C has.
+//! The handle of a caller in C.
 
 ghost use Rattle.std.specs.Prelude.{◌≡◌, ◌≢◌, ◌↔◌, ◌⊎◌, true, IsTrue, Option, None, Some, MatchOption};
 ghost use Rattle.tn_c.specs.{Owning.{handle_owns, held_coded}, declared.held.Held.Held};
@@ -11,11 +11,11 @@ use std::alloc::Global;
 use std::marker::Model;
 use std::mem;
 
-/// One word that C has: null where nothing is held, and else the address of a box of what is held. In C it is
-/// `tn_line`, `tn_decoder`, `tn_server` or `tn_client`, which begins as `{0}`.
+/// One word that C has: null if the handle holds nothing, and else the address of the box that it
+/// holds. In C it is `tn_line`, `tn_decoder`, `tn_server` or `tn_client`, which begins as `{0}`.
 ///
-/// It has no `Drop`, so that code that lets one go does not compile: what is held is taken out of it as a
-/// box, and a handle that is left over is taken apart.
+/// It has no `Drop`, so that code that lets one go does not compile: the box is taken out of it,
+/// and a handle that is left over is taken apart.
 #[repr(C)]
 pub struct Handle {
     at: *mut (),
@@ -104,7 +104,7 @@ impl Handle {
         }
     }
 
-    /// Whether something is held.
+    /// Returns whether the handle holds something.
     pub(crate) fn is_started(&mut self, alloc: Global) -> bool
         ensures value { IsTrue result ↔ (self.old.held ≢ None) }
         ensures same { self.new.held ≡ self.old.held }
@@ -118,7 +118,7 @@ impl Handle {
         }
     }
 
-    /// Holds this from now on, in a box of its own, and gives up what was held, if anything.
+    /// Puts this into the handle, in a box of its own, and gives up what was held, if anything.
     pub(crate) fn hold(&mut self, alloc: Global, held: Held) -> Code
         ensures codes { (result ≡ Done) ⊎ (result ≡ Memory) }
         ensures ok { result ≡ Done → self.new.held ≡ Some held }

@@ -1,8 +1,8 @@
-//! What a handle holds.
+//! The content of a handle.
 
 use crate::parts::{HeldClient, HeldDecoder, HeldLine, HeldServer};
 
-/// What a handle holds.
+/// The content of a handle.
 #[derive(Drop)]
 pub enum Held {
     Line(HeldLine),

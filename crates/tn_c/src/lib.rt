@@ -1,5 +1,8 @@
 //! Lines, decoders and both ends of a Telnet connection for C, behind one opaque handle.
 //!
+//! Begin with `tn_server_start` or `tn_client_start`, and with `include/tn.h`, which lists the
+//! codes that each call returns, and says what C must keep to.
+//!
 //! ```c
 //! tn_server server = TN_HANDLE;
 //! if (tn_server_start(&server, &flags, 255) != TN_OK) return 1;
@@ -25,7 +28,8 @@ mod server;
 mod spelling;
 mod unboxed;
 
-/// The version of the library: 10,000 times its first number, 100 times its second, and its third.
+/// Returns the version of the library: 10,000 times its first number, plus 100 times its second,
+/// plus its third.
 #[unsafe(no_mangle)]
 pub extern "C" fn tn_version() -> u32
     ensures { result ≡ 10200 }

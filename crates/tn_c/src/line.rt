@@ -46,7 +46,7 @@ pub extern "C" fn tn_line_free(alloc: Global, handle: &mut Handle)
     handle.free(alloc);
 }
 
-/// Types a key, and gives the number of what it did.
+/// Types a key, and sets `effect` to the number of its effect.
 #[unsafe(no_mangle)]
 pub extern "C" fn tn_line_key(alloc: Global, handle: &mut Handle, key: u8, effect: &mut u32) -> u32
     ensures { CallsLine handle.old.held handle.new.held result (effect.new ≡ effect.old)
@@ -55,7 +55,8 @@ pub extern "C" fn tn_line_key(alloc: Global, handle: &mut Handle, key: u8, effec
     call_held!(handle, alloc, Line, line => line.key(key, effect))
 }
 
-/// Copies the first bytes of the text that the last key gave, as many as fit, and says how many there are.
+/// Copies the first bytes of the text that the last key gave, as many as fit, and sets `count` to
+/// the number of all of them.
 #[unsafe(no_mangle)]
 pub extern "C" fn tn_line_text(
     alloc: Global,
@@ -69,7 +70,8 @@ pub extern "C" fn tn_line_text(
     call_held!(handle, alloc, Line, line => { line.text(buf, count); Code::Done })
 }
 
-/// Copies what a terminal shows of the last key, as much as fits, and says how long that is.
+/// Copies the bytes that a terminal shows of the last key, as many as fit, and sets `count` to the
+/// number of all of them.
 #[unsafe(no_mangle)]
 pub extern "C" fn tn_line_echo(
     alloc: Global,
@@ -84,7 +86,8 @@ pub extern "C" fn tn_line_echo(
     call_held!(handle, alloc, Line, line => line.echo(alloc, buf, count))
 }
 
-/// Copies the first bytes of the half line, as many as fit, and says how many there are.
+/// Copies the first bytes of the half-typed line, as many as fit, and sets `count` to the number of
+/// all of them.
 #[unsafe(no_mangle)]
 pub extern "C" fn tn_line_half(
     alloc: Global,
@@ -98,7 +101,7 @@ pub extern "C" fn tn_line_half(
     call_held!(handle, alloc, Line, line => { line.half(buf, count); Code::Done })
 }
 
-/// Goes on under these flags; the half line stays.
+/// Sets the flags of the line; the half-typed line stays.
 #[unsafe(no_mangle)]
 pub extern "C" fn tn_line_set_flags(
     alloc: Global,
@@ -111,7 +114,8 @@ pub extern "C" fn tn_line_set_flags(
     call_held!(handle, alloc, Line, line => { line.set_flags(flags.flags()); Code::Done })
 }
 
-/// Changes the special character of the function with this number, or disables it; the half line stays.
+/// Changes the special character of the function with this number, or disables it; the half-typed
+/// line stays.
 #[unsafe(no_mangle)]
 pub extern "C" fn tn_line_set_char(
     alloc: Global,
@@ -125,7 +129,8 @@ pub extern "C" fn tn_line_set_char(
     call_held!(handle, alloc, Line, line => line.set_function(function, value))
 }
 
-/// Gives the special character of the function with this number.
+/// Sets `value` to the special character of the function with this number, or to 256 if it is
+/// disabled.
 #[unsafe(no_mangle)]
 pub extern "C" fn tn_line_char(
     alloc: Global,

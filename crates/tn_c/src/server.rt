@@ -22,8 +22,9 @@ use crate::parts::{Code, HeldServer, TerminalFlags};
 use std::alloc::Global;
 use tn_discipline::{Chars, Limit, Settings};
 
-/// Puts a server end into the handle, over a terminal with these flags and the standard special characters,
-/// whose lines have at most `limit` bytes, 255 to 4,095. Its opening words wait to be read.
+/// Puts a server end into the handle, over a terminal with these flags and the standard special
+/// characters, whose lines have at most `limit` bytes, 255 to 4,095. Its opening messages wait to
+/// be read.
 #[unsafe(no_mangle)]
 pub extern "C" fn tn_server_start(
     alloc: Global,
@@ -61,7 +62,7 @@ pub extern "C" fn tn_server_free(alloc: Global, handle: &mut Handle)
     handle.free(alloc);
 }
 
-/// Takes a piece of what comes from the client, cut anywhere; the replies wait to be read.
+/// Takes a piece of the client's stream, cut anywhere; the replies wait to be read.
 #[unsafe(no_mangle)]
 pub extern "C" fn tn_server_feed(alloc: Global, handle: &mut Handle, bytes: &[u8]) -> u32
     ensures { CallsServer handle.old.held handle.new.held result NoPointer
@@ -70,8 +71,8 @@ pub extern "C" fn tn_server_feed(alloc: Global, handle: &mut Handle, bytes: &[u8
     call_held!(handle, alloc, Server, server => server.feed(bytes))
 }
 
-/// Takes the first bytes of what comes from the client, as many as cannot make more entries than may wait, and
-/// says how many: none while more than 511 entries wait.
+/// Takes the first bytes of the client's stream, as many as cannot make more entries than may wait,
+/// and sets `taken` to their number: none while more than 511 entries wait.
 #[unsafe(no_mangle)]
 pub extern "C" fn tn_server_feed_some(
     alloc: Global,
@@ -85,7 +86,7 @@ pub extern "C" fn tn_server_feed_some(
     call_held!(handle, alloc, Server, server => server.feed_some(bytes, taken))
 }
 
-/// Takes the first entry that waits, and gives the number of its kind.
+/// Takes the first entry that waits, and sets `kind` to the number of its kind.
 #[unsafe(no_mangle)]
 pub extern "C" fn tn_server_take(alloc: Global, handle: &mut Handle, kind: &mut u32) -> u32
     ensures { CallsServer handle.old.held handle.new.held result (kind.new ≡ kind.old)
@@ -94,7 +95,8 @@ pub extern "C" fn tn_server_take(alloc: Global, handle: &mut Handle, kind: &mut 
     call_held!(handle, alloc, Server, server => server.take(kind))
 }
 
-/// Copies the first bytes of the text that was taken last, as many as fit, and says how many there are.
+/// Copies the first bytes of the text that was taken last, as many as fit, and sets `count` to the
+/// number of all of them.
 #[unsafe(no_mangle)]
 pub extern "C" fn tn_server_text(
     alloc: Global,
@@ -118,7 +120,8 @@ pub extern "C" fn tn_server_forget(alloc: Global, handle: &mut Handle) -> u32
     call_held!(handle, alloc, Server, server => { server.forget(); Code::Done })
 }
 
-/// Writes output of a job to the terminal's screen, the first bytes, and says how many fit.
+/// Writes the first bytes of a job's output to the terminal's screen, as many as fit, and sets
+/// `count` to their number.
 #[unsafe(no_mangle)]
 pub extern "C" fn tn_server_write(
     alloc: Global,
@@ -132,7 +135,8 @@ pub extern "C" fn tn_server_write(
     call_held!(handle, alloc, Server, server => { server.write(bytes, count); Code::Done })
 }
 
-/// Spells the first symbols of the screen, at most `max` of them, to be read, and says how many.
+/// Spells the first symbols of the screen, at most `max` of them, to be read, and sets `count` to
+/// their number.
 #[unsafe(no_mangle)]
 pub extern "C" fn tn_server_pull(
     alloc: Global,
@@ -146,7 +150,8 @@ pub extern "C" fn tn_server_pull(
     call_held!(handle, alloc, Server, server => server.pull(max, count))
 }
 
-/// Writes output of a job, the first bytes, says how many fit, and spells all that waits on the screen.
+/// Writes the first bytes of a job's output, as many as fit, sets `count` to their number, and
+/// spells all that waits on the screen.
 #[unsafe(no_mangle)]
 pub extern "C" fn tn_server_say(
     alloc: Global,
@@ -160,7 +165,8 @@ pub extern "C" fn tn_server_say(
     call_held!(handle, alloc, Server, server => server.say(bytes, count))
 }
 
-/// Wishes for editing at the client, or at the server, and says whether a MODE is sent for it.
+/// Requests that the client, or the server, edit lines, and sets `sent` to whether a MODE is sent
+/// for it.
 #[unsafe(no_mangle)]
 pub extern "C" fn tn_server_wish(
     alloc: Global,
@@ -174,7 +180,8 @@ pub extern "C" fn tn_server_wish(
     call_held!(handle, alloc, Server, server => server.wish_for(local, sent))
 }
 
-/// Changes the special character of the function with this number; a client with LINEMODE is to be told.
+/// Changes the special character of the function with this number; the triple for a client with
+/// LINEMODE waits to be read.
 #[unsafe(no_mangle)]
 pub extern "C" fn tn_server_set_char(
     alloc: Global,
@@ -188,7 +195,8 @@ pub extern "C" fn tn_server_set_char(
     call_held!(handle, alloc, Server, server => server.set_function(function, value))
 }
 
-/// Sets or clears the terminal's flag ECHO; the word for the option ECHO is to be read, if one is due.
+/// Sets or clears the terminal's flag ECHO; the message for the option ECHO waits to be read, if
+/// one is due.
 #[unsafe(no_mangle)]
 pub extern "C" fn tn_server_set_echo(alloc: Global, handle: &mut Handle, on: bool) -> u32
     ensures { CallsServer handle.old.held handle.new.held result NoPointer
@@ -197,7 +205,7 @@ pub extern "C" fn tn_server_set_echo(alloc: Global, handle: &mut Handle, on: boo
     call_held!(handle, alloc, Server, server => server.set_echo(on))
 }
 
-/// Asks the client to send what it holds at each character of the mask of these octets.
+/// Asks the client to send the bytes that it holds at each character of the mask of these octets.
 #[unsafe(no_mangle)]
 pub extern "C" fn tn_server_set_mask(alloc: Global, handle: &mut Handle, octets: &[u8]) -> u32
     ensures { CallsServer handle.old.held handle.new.held result NoPointer
@@ -206,7 +214,7 @@ pub extern "C" fn tn_server_set_mask(alloc: Global, handle: &mut Handle, octets:
     call_held!(handle, alloc, Server, server => server.set_octets(octets))
 }
 
-/// Asks the client to send what it holds at no character any more.
+/// Asks the client to send the bytes that it holds at no character any more.
 #[unsafe(no_mangle)]
 pub extern "C" fn tn_server_clear_mask(alloc: Global, handle: &mut Handle) -> u32
     ensures { CallsServer handle.old.held handle.new.held result NoPointer
@@ -215,7 +223,7 @@ pub extern "C" fn tn_server_clear_mask(alloc: Global, handle: &mut Handle) -> u3
     call_held!(handle, alloc, Server, server => server.set_mask(None))
 }
 
-/// Says how many bytes wait to be read.
+/// Sets `count` to the number of bytes that wait to be read.
 #[unsafe(no_mangle)]
 pub extern "C" fn tn_server_pending(alloc: Global, handle: &mut Handle, count: &mut usize) -> u32
     ensures { CallsServer handle.old.held handle.new.held result (count.new ≡ count.old)
@@ -224,7 +232,8 @@ pub extern "C" fn tn_server_pending(alloc: Global, handle: &mut Handle, count: &
     call_held!(handle, alloc, Server, server => { *count = server.pending.len(); Code::Done })
 }
 
-/// Moves the first bytes that are to be sent, as many as fit, and says how many; the others stay.
+/// Moves the first bytes that are to be sent, as many as fit, and sets `count` to their number; the
+/// others stay.
 #[unsafe(no_mangle)]
 pub extern "C" fn tn_server_read(
     alloc: Global,
@@ -239,7 +248,7 @@ pub extern "C" fn tn_server_read(
     call_held!(handle, alloc, Server, server => { server.read(buf, count); Code::Done })
 }
 
-/// Says where the bytes that are to be sent stand, and how many they are.
+/// Sets `bytes` to the place of the bytes that are to be sent, and `count` to their number.
 #[unsafe(no_mangle)]
 pub extern "C" fn tn_server_peek(
     alloc: Global,
@@ -263,7 +272,8 @@ pub extern "C" fn tn_server_sent(alloc: Global, handle: &mut Handle, count: usiz
     call_held!(handle, alloc, Server, server => { server.sent(count); Code::Done })
 }
 
-/// Gives the number of the kind of an entry that waits, by its place from the first on.
+/// Sets `kind` to the number of the kind of an entry that waits, counted from the first, which is
+/// 0.
 #[unsafe(no_mangle)]
 pub extern "C" fn tn_server_waiting(
     alloc: Global,
@@ -278,7 +288,8 @@ pub extern "C" fn tn_server_waiting(
     call_held!(handle, alloc, Server, server => { *kind = server.waiting_kind(index); Code::Done })
 }
 
-/// Copies the first bytes of the text of an entry that waits, as many as fit, and says how many there are.
+/// Copies the first bytes of the text of an entry that waits, as many as fit, and sets `count` to
+/// the number of all of them.
 #[unsafe(no_mangle)]
 pub extern "C" fn tn_server_waiting_text(
     alloc: Global,
@@ -298,7 +309,7 @@ pub extern "C" fn tn_server_waiting_text(
     )
 }
 
-/// Gives the number of the first signal among the entries that wait.
+/// Sets `kind` to the number of the first signal among the entries that wait.
 #[unsafe(no_mangle)]
 pub extern "C" fn tn_server_signal_waiting(
     alloc: Global,
@@ -312,7 +323,8 @@ pub extern "C" fn tn_server_signal_waiting(
     call_held!(handle, alloc, Server, server => { *kind = server.signal_waiting(); Code::Done })
 }
 
-/// Says by the bits of `tn_change` what is otherwise than at the last such call, or at the start.
+/// Sets `bits` to the bits of `tn_change` for all that differs from the last such call, or from the
+/// start.
 #[unsafe(no_mangle)]
 pub extern "C" fn tn_server_changes(alloc: Global, handle: &mut Handle, bits: &mut u32) -> u32
     ensures { CallsServer handle.old.held handle.new.held result (bits.new ≡ bits.old)
@@ -321,7 +333,7 @@ pub extern "C" fn tn_server_changes(alloc: Global, handle: &mut Handle, bits: &m
     call_held!(handle, alloc, Server, server => { server.changes(bits); Code::Done })
 }
 
-/// Gives the window's width and height in characters.
+/// Sets `width` and `height` to the window's size in characters; 0 is unspecified.
 #[unsafe(no_mangle)]
 pub extern "C" fn tn_server_size(
     alloc: Global,
@@ -336,7 +348,7 @@ pub extern "C" fn tn_server_size(
     call_held!(handle, alloc, Server, server => { server.size(width, height); Code::Done })
 }
 
-/// Gives the mask of the MODE that the client acknowledged last.
+/// Sets `mask` to the mask of the MODE that the client acknowledged last.
 #[unsafe(no_mangle)]
 pub extern "C" fn tn_server_mode(alloc: Global, handle: &mut Handle, mask: &mut u8) -> u32
     ensures { CallsServer handle.old.held handle.new.held result (mask.new ≡ mask.old)
@@ -345,7 +357,7 @@ pub extern "C" fn tn_server_mode(alloc: Global, handle: &mut Handle, mask: &mut 
     call_held!(handle, alloc, Server, server => { *mask = server.end.mode(); Code::Done })
 }
 
-/// Gives the mask that the client was asked for.
+/// Sets `mask` to the mask that the client was asked for last.
 #[unsafe(no_mangle)]
 pub extern "C" fn tn_server_asked(alloc: Global, handle: &mut Handle, mask: &mut u8) -> u32
     ensures { CallsServer handle.old.held handle.new.held result (mask.new ≡ mask.old)
@@ -354,7 +366,8 @@ pub extern "C" fn tn_server_asked(alloc: Global, handle: &mut Handle, mask: &mut
     call_held!(handle, alloc, Server, server => { *mask = server.end.asked(); Code::Done })
 }
 
-/// Copies the first bytes of the half line, as many as fit, and says how many there are.
+/// Copies the first bytes of the half-typed line, as many as fit, and sets `count` to the number of
+/// all of them.
 #[unsafe(no_mangle)]
 pub extern "C" fn tn_server_half(
     alloc: Global,
@@ -369,7 +382,8 @@ pub extern "C" fn tn_server_half(
     call_held!(handle, alloc, Server, server => { server.half(buf, count); Code::Done })
 }
 
-/// Gives the special character of the function with this number.
+/// Sets `value` to the special character of the function with this number, or to 256 if it is
+/// disabled.
 #[unsafe(no_mangle)]
 pub extern "C" fn tn_server_char(
     alloc: Global,
@@ -383,7 +397,7 @@ pub extern "C" fn tn_server_char(
     call_held!(handle, alloc, Server, server => server.function_char(function, value))
 }
 
-/// Gives the number of where an option stands, at our side or at theirs.
+/// Sets `state` to the number of an option's state, at our side or at theirs.
 #[unsafe(no_mangle)]
 pub extern "C" fn tn_server_option(
     alloc: Global,
@@ -402,7 +416,7 @@ pub extern "C" fn tn_server_option(
     )
 }
 
-/// Says whether a feed was refused.
+/// Sets `failed` to whether a feed was refused.
 #[unsafe(no_mangle)]
 pub extern "C" fn tn_server_failed(alloc: Global, handle: &mut Handle, failed: &mut bool) -> u32
     ensures { CallsServer handle.old.held handle.new.held result (failed.new ≡ failed.old)

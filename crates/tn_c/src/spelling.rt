@@ -6,7 +6,7 @@ ghost use Rattle.tn_c.specs.parts.{Codes.Answers, Spelled.{Spells, SpellsCommand
 use crate::parts::{spell_byte, spell_command, spell_newline, spell_sub, spell_word};
 use std::alloc::Global;
 
-/// Spells a byte of data, as much as fits, and says how long that is.
+/// Spells a byte of data, as much as fits, and sets `count` to the length of the whole spelling.
 #[unsafe(no_mangle)]
 pub extern "C" fn tn_put_byte(alloc: Global, byte: u8, buf: &mut [u8], count: &mut usize) -> u32
     ensures { Answers result (Spells (item.Byte byte)
@@ -15,7 +15,7 @@ pub extern "C" fn tn_put_byte(alloc: Global, byte: u8, buf: &mut [u8], count: &m
     spell_byte(alloc, byte, buf, count).number()
 }
 
-/// Spells the end of a line, as much as fits, and says how long that is.
+/// Spells the end of a line, as much as fits, and sets `count` to the length of the whole spelling.
 #[unsafe(no_mangle)]
 pub extern "C" fn tn_put_newline(alloc: Global, buf: &mut [u8], count: &mut usize) -> u32
     ensures { Answers result (Spells item.Newline
@@ -24,7 +24,8 @@ pub extern "C" fn tn_put_newline(alloc: Global, buf: &mut [u8], count: &mut usiz
     spell_newline(alloc, buf, count).number()
 }
 
-/// Spells the command with this byte, as much as fits, and says how long that is.
+/// Spells the command with this byte, as much as fits, and sets `count` to the length of the whole
+/// spelling.
 #[unsafe(no_mangle)]
 pub extern "C" fn tn_put_command(
     alloc: Global,
@@ -38,7 +39,8 @@ pub extern "C" fn tn_put_command(
     spell_command(alloc, command, buf, count).number()
 }
 
-/// Spells the option word with this byte, as much as fits, and says how long that is.
+/// Spells the option message whose verb has this byte, as much as fits, and sets `count` to the
+/// length of the whole spelling.
 #[unsafe(no_mangle)]
 pub extern "C" fn tn_put_option(
     alloc: Global,
@@ -53,7 +55,7 @@ pub extern "C" fn tn_put_option(
     spell_word(alloc, word, option, buf, count).number()
 }
 
-/// Spells a subnegotiation, as much as fits, and says how long that is.
+/// Spells a subnegotiation, as much as fits, and sets `count` to the length of the whole spelling.
 #[unsafe(no_mangle)]
 pub extern "C" fn tn_put_sub(
     alloc: Global,

@@ -1,11 +1,12 @@
-//! What a box is made of.
+//! The parts of a box.
 
 ghost use Rattle.std.specs.{Prelude.◌≡◌, Box.Ownership.box_owns};
 
 use std::alloc::Allocator;
 use std::marker::Model;
 
-/// The address of a box and its allocator. They own what the box owned: it is given back by `into_box` alone.
+/// The address of a box and its allocator. They own what the box owned: only `into_box` gives it
+/// back.
 pub(crate) struct Unboxed<T, A: Allocator> {
     pub(crate) at: *mut T,
     pub(crate) alloc: A,

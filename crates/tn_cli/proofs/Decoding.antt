@@ -1,4 +1,4 @@
--- What is printed of a stream that is handed on piece by piece to a printer of lines.
+-- The lines that are printed of a stream that is passed on piece by piece to a printer of lines.
 use Rattle.std.proofs.Common.{◌≡◌, ℕ, List, [], ◌++◌, map, length, take, drop, Option, Some, None, Result, Ok, Err, OnErr, refl, sym, ap, ◌∙◌, subst}
 use Rattle.std.proofs.{Common.{append-nil, append_assoc, arith}, lemmas.List.{take_all, take_at, take-append-drop}}
 use Rattle.std.specs.Io.KnownBytes.{Appends, Consumes, IsAtEnd}
@@ -30,7 +30,7 @@ appends_both (Some o) (Some m) (Some n) xs ys a b = b ∙ ap (λ (zs : List ℕ)
 abbrev with_text : Printing → List ℕ → Printing
 with_text p text = record p { text = text }
 
--- what a printer takes that has no lines, it takes behind others
+-- a printer that has no lines takes items as one takes them after others
 takes_behind : (old new : Printing) (items : List Item) (written : List ℕ) → old.text ≡ [] → Takes old items new
     → Takes (with_text old written) items (with_text new (written ++ new.text))
 takes_behind old new items written none t = record {
@@ -49,7 +49,7 @@ pub printing_is : (p : Printing) → p.prefix ≡ Empty → p.text ≡ [] → p.
 printing_is p prefix text held =
     ap (λ x. printing x p.text p.held) prefix ∙ ap (λ (xs : List ℕ). printing Empty xs p.held) text ∙ ap (printing Empty []) held
 
--- of a new decoder nothing is printed
+-- a new decoder has printed nothing
 pub printed_none : (decoding : Decoding) → nvt.LeadsTo [] [] decoding.decoder → decoding.lines ≡ nothing_printed → Watches [] decoding.watch
     → HasPrinted [] [] decoding
 printed_none decoding begins none watched = record {
@@ -97,7 +97,7 @@ printed_last decoding text ended ends is stream written had =
     in
     subst (λ (xs : List ℕ). IsDecodeOf stream (written ++ xs)) (sym held) (printed_whole stream written decoding had)
 
--- WHERE IT STOPS
+-- THE PLACE AT WHICH IT STOPS
 
 -- nothing of the piece was written
 pub stops_before : (decoding : Decoding) (piece : List ℕ) (here : Option (List ℕ)) → StopsPiece decoding piece here here
@@ -112,7 +112,7 @@ stops_before decoding piece here stream written had = record {
   appended = appends_none here;
 }
 
--- of a text that goes on to all that is printed, the front was written
+-- if a text goes on to all that is printed, its front was written
 front_of : (written text others : List ℕ) (count : ℕ) → written ++ (text ++ others) ≡ (written ++ take count text) ++ (drop count text ++ others)
 front_of written text others count =
     ap (λ (xs : List ℕ). written ++ (xs ++ others)) (sym (take-append-drop count text))
@@ -147,7 +147,7 @@ stops_last decoding text before after prints (count, appended) stream written ha
   appended = appended;
 }
 
--- of all that was read, a beginning was written
+-- a beginning of all that was read was written
 pub decodes_some : (input mid rest old here new : Option (List ℕ)) (piece : List ℕ) (decoding : Decoding) → Decoded input mid old here decoding
     → Consumes mid rest piece → StopsPiece decoding piece here new → DecodesSome input rest old new
 decodes_some input mid rest old here new piece decoding had read stops =

@@ -12,11 +12,11 @@ encode-one : (t : List ℕ) (x : ℕ) → encode_with t (x ∷ []) ≡ slice_ind
 unfolding encode_with
 encode-one t x = refl
 
--- a digit that was put behind
+-- a digit that was appended
 pub digit_put : (before after : List ℕ) (digit is : ℕ) → after ≡ before ++ digit ∷ [] → digit ≡ is → after ≡ before ++ is ∷ []
 digit_put before after digit is put same = put ∙ ap (λ d. before ++ d ∷ []) same
 
--- what stands where a call went well
+-- the content if a call went well
 pub where_ok : {E : Type 0} (r : Result (Unit {0}) E) (x there other : List ℕ) → IsOk r → x ≡ (if is_ok r then there else other) → x ≡ there
 where_ok (Ok u) x there other ok is = is
 where_ok (Err e) x there other ok is = cc

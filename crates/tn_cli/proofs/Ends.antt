@@ -1,4 +1,4 @@
--- How a script ends that was read whole.
+-- The end of a script that was read whole.
 use Rattle.std.proofs.Common.{◌≡◌, ℕ, ◌≤◌, List, length, Option, Some, Result, Ok, Err, refl, sym, subst}
 use Rattle.std.specs.{Bool.⊤, Io.KnownBytes.{Consumes, IsAtEnd}}
 use Rattle.tn_cli.proofs.Outputs.{whole_input}
@@ -21,7 +21,7 @@ ends_well had rest input old new consumed end fits printed = record {
   unwritten = tt;
 }
 
--- by a write
+-- the run ends by a write that failed
 pub ends_by_write : (ended : Result ⊤ CliFault) (had rest : Option (List ℕ)) (input : List ℕ) (old new : Option (List ℕ)) → ended ≡ Err fault.Write
     → Consumes had rest input → IsAtEnd rest → length input ≤ max_input → PlaysScriptPrefix input old new → EndsWorld ended had old new
 ends_by_write ended had rest input old new is consumed end fits printed =
@@ -37,7 +37,7 @@ ends_by_write ended had rest input old new is consumed end fits printed =
       unwritten = λ a b c. absurd (a refl);
     })
 
--- at a line: what the lines before it print was written
+-- the run ends at a line: what the lines before it print was written
 pub ends_at_line : (f : CliFault) (had rest : Option (List ℕ)) (input : List ℕ) (old new : Option (List ℕ)) → Consumes had rest input → IsAtEnd rest
     → length input ≤ max_input
     → AppendsText (EndsWith (lines_of input) (Some f)) old new → EndsWorld (Err f) had old new

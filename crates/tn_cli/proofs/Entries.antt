@@ -10,7 +10,7 @@ use Rattle.tn_cores.specs.streams.Telling.{Calls, HasMade, HasFailed, AccountsFo
 use Rattle.tn_cli.specs.{Printed.{printed, printed_entry}, Streams.AppendsPrefix, Typing.{LeadsTo, Types, PrintsKeys, PrintsKeysPrefix, local_output, standard}}
 use Rattle.tn_cli.specs.declared.typing.Typing.{Typing}
 
--- more keys print what they print behind what the others do
+-- more keys print their entries after those of the others
 output_more : (xs ys : List ℕ) → (rest : List ℕ) × (local_output (xs ++ ys) ≡ local_output xs ++ rest)
 output_more xs ys =
     let before = roles_of standard.settings xs in

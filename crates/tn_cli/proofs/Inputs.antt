@@ -13,7 +13,7 @@ pub consumes_none : (here : Option (List ℕ)) → Consumes here here []
 consumes_none None = tt
 consumes_none (Some xs) = refl
 
--- so many bytes were read, and they were kept if as many were
+-- this number of bytes was read, and they were kept if as many were
 pub record HasKept (total : ℕ) (old new : Option (List ℕ)) (kept : List ℕ) : Type 0 where
   pub bytes : List ℕ
   pub consumed : Consumes old new bytes

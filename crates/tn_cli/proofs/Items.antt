@@ -27,7 +27,7 @@ gathers_both old mid new xs ys first then =
     ∙ append_assoc old.keys.items (keys_of xs) (keys_of ys)
     ∙ ap (λ (zs : List ℕ). old.keys.items ++ zs) (sym (filter_map-append key_of xs ys))
 
--- what a new decoder hands on is the keys of the whole stream
+-- the keys that a new decoder passes on are those of the whole stream
 pub gathered : (fresh after : DecoderState) (stream : List ℕ) (old new : Gathered) → nvt.LeadsTo [] [] fresh → old.keys.items ≡ []
     → FeedsTo GathersItems fresh stream old new after → AreKeysOf stream new.keys.items
 gathered fresh after stream old new begins empty hands =

@@ -4,7 +4,7 @@ use Rattle.std.specs.Io.KnownBytes.{Consumes, IsAtEnd, Appends}
 use Rattle.tn_cli.specs.{Playing.{AppendsPrint, AppendsText, AppendsPrefixOfText, EndsWith, PrintsSome}, declared.fault.CliFault.CliFault}
 use Rattle.tn_cli.specs.Streams.{AppendsPrefix}
 
--- what was read up to the end is all that the reader had
+-- the bytes that were read up to the end are all that the reader had
 pub whole_input : (P : List ℕ → Type 0) (old new : Option (List ℕ)) (input : List ℕ) → Consumes old new input → IsAtEnd new → P input → IfSome old P
 whole_input P None new input consumed end p = tt
 whole_input P (Some xs) None input consumed end p = absurd consumed

@@ -2,7 +2,7 @@
 use Rattle.std.proofs.Common.{◌≡◌, ◌<◌, ℕ, ◌+◌, ◌*◌, ◌/◌, ◌%◌, zero, suc, List, [], ◌∷◌, codes, length, slice_index, refl, sym, ap, ◌∙◌, arith}
 use Rattle.hex.specs.Hex.{encode_with, lower_digits}
 
--- so many numbers, from this one on
+-- a row of this many numbers, from this one on
 abbrev counted : ℕ → ℕ → List ℕ
 counted n zero = []
 counted n (suc k) = n ∷ counted (suc n) k

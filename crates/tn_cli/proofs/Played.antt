@@ -42,7 +42,7 @@ stop_at lines i text world within played = record {
   played = played;
 }
 
--- the same of lines that are lent
+-- more lines that are lent
 pub lent_played_more : (mid new : World) (lines : List (Bor (List ℕ))) (i : ℕ) (d : Bor (List ℕ)) (before now after : List ℕ) → i < length lines
     → AppendsPrint (λ text. LeadsTo (map (λ line. line.now) (take i lines)) text mid) before now → Prints (RunsLine mid (get_or lines i d).now) now after new
     → AppendsPrint (λ text. LeadsTo (map (λ line. line.now) (take (i + 1) lines)) text new) before after
@@ -92,7 +92,7 @@ more_rounds n (suc m) old mid new before r =
     let rest = more_rounds n m old mid r.0 before r.1 in
     record { count = suc rest.count; is_count = let e = rest.is_count in omega arith; rounds = (r.0, rest.rounds, r.2, r.3) }
 
--- so many rounds were run, twice as often as the world settled where something is in flight
+-- this number of rounds was run, twice as many as the settlings of the world at which something was in flight
 pub record SettledBefore (settlings : ℕ) (old new : World) : Type 0 where
   pub count : ℕ
   pub rounds : RunsRounds count old new

@@ -30,7 +30,7 @@ doubled_none : doubled_bytes [] ≡ []
 unfolding doubled_bytes
 doubled_none = refl
 
--- a splitting goes on where its rest goes on
+-- a splitting goes on at its rest
 splits_both : (ss ts : List Segment) (rest new stream more : List ℕ) → Splits ss rest stream → Splits ts new (rest ++ more)
     → Splits (ss ++ ts) new (stream ++ more)
 splits_both [] ts rest new stream more p q = rw p q
@@ -102,7 +102,7 @@ iac_verb v b h = no_segment AfterIac AfterVerb b (λ rest r. (v, rw (r, h) refl)
 pub iac_command : (k : Command) (b : ℕ) → command_code k ≡ b → Leads AfterIac b none Between
 iac_command k b h = one (spelled (Cmd k)) AfterIac Between b tt refl (λ rest r. rw (r, h) refl)
 
--- what is neither 250, 255, a verb nor a command
+-- a byte that is neither 250, 255, a verb nor a command
 no_meaning : (b : ℕ) → b < 256 → b ≢ 255 → b ≢ 250 → ((v : Verb) → verb_code v ≢ b) → ((k : Command) → command_code k ≢ b) → (b < 236) ⊎ (b ≡ 240)
 no_meaning b fits h k v c =
     let v0 = v verb.Will in
@@ -232,7 +232,7 @@ watches_byte old new byte dropped leads escapes subs stream had =
 
 -- THE END
 
--- the rest of a stream that ends here is less than a segment
+-- the rest of a stream that ends at this byte is less than a segment
 partial_at : (stand : Stand) (rest : List ℕ) → StandsAt stand rest → IsPartial rest
 partial_at Between rest is = record { segment = spelled Newline; more = 13 ∷ 10 ∷ []; is_segment = tt; proper = omega arith; begins = rw is refl }
 partial_at AfterCr rest is = record { segment = spelled Newline; more = 10 ∷ []; is_segment = tt; proper = omega arith; begins = rw is refl }

@@ -11,6 +11,6 @@ wrote_more (Some o) (Some x) None output n m a b = absurd b
 wrote_more (Some o) (Some x) (Some y) output n m a b =
     b ∙ ap (λ z. z ++ take m (drop n output)) a ∙ append_assoc o _ _ ∙ ap (λ z. o ++ z) (sym (take-add n m output))
 
--- the rest of an output, as a slice from here to its end
+-- the rest of an output, as a slice from this place to its end
 pub rest_is : (output : List ℕ) (n : ℕ) → take (length output - n) (drop n output) ≡ drop n output
 rest_is output n = take_all (length output - n) (drop n output) (omega (arith, length-drop n output))

@@ -1,4 +1,4 @@
--- What `tn decode` prints of one direction of a stream.
+-- The lines that `tn decode` prints of one direction of a stream.
 use Rattle.std.specs.{Prelude.{◌≡◌, ℕ, Option, List, [], ◌++◌}, Io.KnownBytes.{Appends, Consumes}}
 use Rattle.tn_nvt.specs.{declared.items.Item.Item, Feeding.LeadsTo, Stream.Reading}
 use Rattle.tn_net.specs.printing.{Lines.decoded, Printing.{Printing, Takes}}
@@ -12,7 +12,7 @@ pub record IsDecodeOf (stream output : List ℕ) : Type 0 where
   pub reading : Reading stream items rest
   pub printed : output ≡ decoded [] items
 
--- the whole output was appended, where the writer tells what it holds
+-- the whole output was appended, if the writer's content is known
 abbrev pub Decodes : List ℕ → Option (List ℕ) → Option (List ℕ) → Type 0
 Decodes stream old new = (output : List ℕ) × IsDecodeOf stream output × Appends old new output
 
@@ -20,7 +20,7 @@ Decodes stream old new = (output : List ℕ) × IsDecodeOf stream output × Appe
 abbrev pub DecodesPrefix : List ℕ → Option (List ℕ) → Option (List ℕ) → Type 0
 DecodesPrefix stream old new = (output : List ℕ) × IsDecodeOf stream output × AppendsPrefix old new output
 
--- These bytes were read, where the reader tells them, and all that is printed of them was appended.
+-- These bytes were read, if the reader's bytes are known, and all that is printed of them was appended.
 pub record DecodesRead (input rest old new : Option (List ℕ)) : Type 0 where
   pub stream : List ℕ
   pub read : Consumes input rest stream
@@ -37,7 +37,8 @@ pub record DecodesSome (input rest old new : Option (List ℕ)) : Type 0 where
 abbrev pub nothing_printed : Printing
 nothing_printed = record { prefix = Empty; text = []; held = [] }
 
--- Of what was read, all lines that are complete were written; the data of a line that is not are held.
+-- All lines of the bytes that were read that are complete were written; the data of a line that is not are
+-- held.
 pub record HasPrinted (stream written : List ℕ) (decoding : Decoding) : Type 0 where
   pub items : List Item
   pub read : LeadsTo stream items decoding.decoder
@@ -65,8 +66,8 @@ WritesPiece old piece new before after =
 abbrev pub WritesLast : Decoding → Option (List ℕ) → Option (List ℕ) → Type 0
 WritesLast decoding before after = (text : List ℕ) × PrintsLast decoding text × Appends before after text
 
--- Of what was read before and this piece, the first bytes have lines of which no more than a beginning was
--- written.
+-- The first of the bytes that were read before and of this piece have lines of which no more than a beginning
+-- was written.
 pub record StopsWriting (stream written piece : List ℕ) (before after : Option (List ℕ)) : Type 0 where
   pub front : List ℕ
   pub back : List ℕ
@@ -76,12 +77,12 @@ pub record StopsWriting (stream written piece : List ℕ) (before after : Option
   pub decodes : IsDecodeOf front ((written ++ gained) ++ left)
   pub appended : Appends before after gained
 
--- so it is whatever was read and written before
+-- the writer stops at a piece after any bytes that were read and written before
 abbrev pub StopsPiece : Decoding → List ℕ → Option (List ℕ) → Option (List ℕ) → Type 0
 StopsPiece old piece before after =
     (stream written : List ℕ) → HasPrinted stream written old → StopsWriting stream written piece before after
 
--- these bytes were read, and so much was appended of what is printed of them
+-- these bytes were read, and this much of their lines was appended
 pub record Decoded (input rest old new : Option (List ℕ)) (decoding : Decoding) : Type 0 where
   pub stream : List ℕ
   pub written : List ℕ

@@ -1,4 +1,4 @@
--- How a run of a subcommand ends: its outcome, its input, its output, and the calls that failed.
+-- The end of a run of a subcommand: its outcome, its input, its output, and the calls that failed.
 use Rattle.std.specs.Prelude.{◌≡◌, ◌≢◌, ⊤, ℕ, ◌<◌, ◌≤◌, List, length, Option, IfSome, Result, Err, IfOk, OnOk}
 use Rattle.std.specs.Prelude.{OnErr, IfErr, IsErrOf}
 use Rattle.tn_cli.specs.{Decode.{Decodes, DecodesRead, DecodesSome}, declared.unprinted.Unprinted.Unprinted}
@@ -9,9 +9,9 @@ use Rattle.tn_cli.specs.{Typing.{PrintsKeys, PrintsKeysPrefix}, declared.fault.C
 use Rattle.tn_cli.specs.declared.fault.CliFault.TheVariants as fault
 use Rattle.tn_cores.specs.streams.Telling.{Calls, HasFailed, SomeFailed}
 
--- What every run promises, where its reader tells the bytes that it will give. `Prints` relates such an
--- input and the output before and after a run that ends well, and `PrintsPrefix` does where a write fails.
--- Too long an input gives `TooLong`, unless a read fails: no other fault comes before it.
+-- The promise of every run, if the bytes that its reader will give are known. `Prints` relates such an input
+-- and the output before and after a run that ends well, and `PrintsPrefix` does if a write fails. Too long an
+-- input gives `TooLong`, unless a read fails: no other fault comes before it.
 pub record EndsRun (Prints PrintsPrefix : List ℕ → Option (List ℕ) → Option (List ℕ) → Type 0)
     (ended : Result ⊤ CliFault) (input old new : Option (List ℕ)) : Type 0 where
   pub ok : OnOk ended (IfSome input (λ bytes. Prints bytes old new))
@@ -20,7 +20,7 @@ pub record EndsRun (Prints PrintsPrefix : List ℕ → Option (List ℕ) → Opt
       → IfSome input (λ bytes. length bytes ≤ max_input)
   pub too_long : IsErrOf ended fault.TooLong → IfSome input (λ bytes. max_input < length bytes)
 
--- What every run promises, where its reader and its writer tell how many of their calls failed. `Read`: a
+-- The promise of every run, if the numbers of failed calls of its reader and its writer are known. `Read`: a
 -- read failed, or 2,097,152 were made. `Write`: a write failed, or took none of its bytes, or 2^64 - 1 were
 -- made.
 pub record EndsByCalls (ended : Result ⊤ CliFault) (reads reads_after writes writes_after : Option Calls)
@@ -28,7 +28,8 @@ pub record EndsByCalls (ended : Result ⊤ CliFault) (reads reads_after writes w
   pub read_failed : IsErrOf ended fault.Read → HasFailed max_reads reads reads_after
   pub write_failed : IsErrOf ended fault.Write → HasFailed max_writes writes writes_after
 
--- Of keys and of a stream: no line of them is at fault, and after any fault but `Write` nothing was written.
+-- The promise for keys and for a stream: no line of them is at fault, and after any fault but `Write` nothing
+-- was written.
 pub record EndsPlainly (Prints PrintsPrefix : List ℕ → Option (List ℕ) → Option (List ℕ) → Type 0)
     (ended : Result ⊤ CliFault) (input old new : Option (List ℕ)) : Type 0 where
   pub run : EndsRun Prints PrintsPrefix ended input old new
@@ -36,15 +37,15 @@ pub record EndsPlainly (Prints PrintsPrefix : List ℕ → Option (List ℕ) →
   pub no_script : (line : ℕ) → ended ≢ Err (fault.Script line)
   pub no_world : (line : ℕ) → ended ≢ Err (fault.World line)
 
--- how typing keys at one local terminal ends
+-- the end of typing keys at one local terminal
 abbrev pub EndsLocal : Result ⊤ CliFault → Option (List ℕ) → Option (List ℕ) → Option (List ℕ) → Type 0
 EndsLocal = EndsPlainly PrintsKeys PrintsKeysPrefix
 
--- how replaying a client's stream ends
+-- the end of replaying a client's stream
 abbrev pub EndsReplay : Result ⊤ CliFault → Option (List ℕ) → Option (List ℕ) → Option (List ℕ) → Type 0
 EndsReplay = EndsPlainly Replays ReplaysPrefix
 
--- what decoding a stream can fail by
+-- the faults by which decoding a stream can fail
 abbrev pub IsDecodeFault : CliFault → Type 0
 IsDecodeFault fault.Read = Unit {0}
 IsDecodeFault fault.Write = Unit {0}
@@ -53,8 +54,8 @@ IsDecodeFault fault.TooLong = ⊥
 IsDecodeFault (fault.Script line) = ⊥
 IsDecodeFault (fault.World line) = ⊥
 
--- How decoding a stream ends, of whatever length, which is printed as it comes. All of it is printed, or
--- after a read that failed, all that was read; after a write that failed, or out of memory, a beginning.
+-- The end of decoding a stream, of any length, which is printed as it comes. All of it is printed, or after a
+-- read that failed, all that was read; after a write that failed, or out of memory, a beginning.
 pub record EndsDecode (ended : Result Unprinted CliFault)
     (input rest old new : Option (List ℕ)) : Type 0 where
   pub ok : OnOk ended (IfSome input (λ stream. Decodes stream old new))
@@ -71,7 +72,7 @@ pub record EndsDecodeByCalls (ended : Result Unprinted CliFault)
   pub read_failed : IsErrOf ended fault.Read → HasFailed max_pieces reads reads_after
   pub write_failed : IsErrOf ended fault.Write → SomeFailed max_writes writes writes_after
 
--- How a script ends. Where a line of it is no command, or is refused, the lines before it were done, and what
+-- The end of a script. If a line of it is no command, or is refused, the lines before it were done, and what
 -- they print was written.
 pub record EndsWorld (ended : Result ⊤ CliFault) (input old new : Option (List ℕ)) : Type 0 where
   pub run : EndsRun PlaysScript PlaysScriptPrefix ended input old new

@@ -3,6 +3,7 @@ use Rattle.std.specs.Prelude.{ℕ, Result, Ok, Err}
 use Rattle.tn_cli.specs.declared.fault.CliFault.{CliFault}
 use Rattle.tn_cli.specs.declared.fault.CliFault.TheVariants.{Read, TooLong, Script, World, Write, Memory}
 
+-- the status of a process that ends with this fault
 abbrev pub status_of : CliFault → ℕ
 status_of TooLong = 2
 status_of (Script line) = 2

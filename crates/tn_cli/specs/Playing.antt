@@ -1,4 +1,4 @@
--- What a world's script does and prints.
+-- The effects and the output of a world's script.
 use Rattle.std.specs.Prelude.{◌≡◌, ◌≢◌, ◌⊎◌, ℕ, ◌+◌, ◌≤◌, Option, Some, None, option_to_list, List, [], ◌∷◌}
 use Rattle.std.specs.{Prelude.{◌++◌, map, length, codes}, Io.KnownBytes.Appends}
 use Rattle.hex.specs.Hex.{encode_lower}
@@ -13,15 +13,17 @@ use Rattle.tn_cli.specs.{Typing.standard, declared.{fault.CliFault.CliFault, scr
 use Rattle.tn_cli.specs.declared.scripts.Command.TheVariants.{Keys, Happen, Settle, Take, Mark, Flight, Shown}
 use Rattle.tn_cli.specs.declared.fault.CliFault.TheVariants as fault
 
--- bytes in lower hexadecimal, or a dash where there are none
+-- bytes in lower hexadecimal, or a dash if there are none
 abbrev pub printed_bytes : List ℕ → List ℕ
 printed_bytes [] = codes "-\n"
 printed_bytes (b ∷ bs) = encode_lower (b ∷ bs) ++ codes "\n"
 
+-- the lines of the bytes in flight
 abbrev pub printed_flight : World → List ℕ
 printed_flight w =
     codes "to-server " ++ printed_bytes w.to_server ++ codes "to-client " ++ printed_bytes w.to_client
 
+-- the line of an entry, if there is one
 abbrev pub printed_read : Option Entry → List ℕ
 printed_read (Some entry) = printed_entry entry
 printed_read None = codes "none\n"
@@ -73,7 +75,7 @@ RunsCommand old Mark text new = PrintsMark old text new
 RunsCommand old Flight text new = (text ≡ printed_flight old) × (new ≡ old)
 RunsCommand old Shown text new = (text ≡ codes "shown " ++ printed_bytes old.shown) × (new ≡ old)
 
--- what does this, from one world to another, appended its text
+-- an effect of this kind, from one world to another, appended its text
 abbrev pub Prints : (List ℕ → World → Type 0) → List ℕ → List ℕ → World → Type 0
 Prints does before after new = (text : List ℕ) × does text new × (after ≡ before ++ text)
 
@@ -130,7 +132,7 @@ pub record StopsWithin (lines : List (List ℕ)) (number : ℕ) (text : List ℕ
   pub world : World
   pub played : LeadsTo done text world
 
--- that line is no command
+-- the line at which the script stops is no command
 abbrev pub StopsAtBadLine : List (List ℕ) → ℕ → List ℕ → Type 0
 StopsAtBadLine lines number text = (stop : StopsWithin lines number text) × IsBad stop.line
 
@@ -139,14 +141,14 @@ abbrev pub StopsAtRefusedLine : List (List ℕ) → ℕ → List ℕ → Type 0
 StopsAtRefusedLine lines number text =
     (stop : StopsWithin lines number text) × RefusesLine stop.world stop.line
 
--- how a script ended, and what it had printed
+-- the end of a script, and what it had printed
 abbrev pub EndsWith : List (List ℕ) → Option CliFault → List ℕ → Type 0
 EndsWith lines None text = PrintsWhole lines text
 EndsWith lines (Some (fault.Script number)) text = StopsAtBadLine lines number text
 EndsWith lines (Some (fault.World number)) text = StopsAtRefusedLine lines number text
 EndsWith lines (Some f) text = ⊥
 
--- what a script prints, whole or up to where it stops
+-- the output of a script, whole or up to where it stops
 abbrev pub PrintsSome : List (List ℕ) → List ℕ → Type 0
 PrintsSome lines text = (end : Option CliFault) × EndsWith lines end text
 
@@ -154,7 +156,7 @@ PrintsSome lines text = (end : Option CliFault) × EndsWith lines end text
 abbrev pub AppendsPrint : (List ℕ → Type 0) → List ℕ → List ℕ → Type 0
 AppendsPrint is old new = (text : List ℕ) × is text × (new ≡ old ++ text)
 
--- such a text was appended, where the writer tells what it holds
+-- such a text was appended, if the writer's content is known
 abbrev pub AppendsText : (List ℕ → Type 0) → Option (List ℕ) → Option (List ℕ) → Type 0
 AppendsText is old new = (text : List ℕ) × is text × Appends old new text
 
@@ -162,10 +164,10 @@ AppendsText is old new = (text : List ℕ) × is text × Appends old new text
 abbrev pub AppendsPrefixOfText : (List ℕ → Type 0) → Option (List ℕ) → Option (List ℕ) → Type 0
 AppendsPrefixOfText is old new = (text : List ℕ) × is text × AppendsPrefix old new text
 
--- what a whole script prints was appended
+-- the output of a whole script was appended
 abbrev pub PlaysScript : List ℕ → Option (List ℕ) → Option (List ℕ) → Type 0
 PlaysScript script = AppendsText (PrintsWhole (lines_of script))
 
--- a prefix was appended of what a script prints, whole or up to where it stops
+-- a prefix was appended of the output of a script, whole or up to where it stops
 abbrev pub PlaysScriptPrefix : List ℕ → Option (List ℕ) → Option (List ℕ) → Type 0
 PlaysScriptPrefix script = AppendsPrefixOfText (PrintsSome (lines_of script))

@@ -4,6 +4,7 @@ use Rattle.hex.specs.Hex.{encode_lower}
 use Rattle.tn_discipline.specs.declared.reads.{Entry.{Entry, TheVariants.{Text, Eof, Signal}}, Sig.Sig}
 use Rattle.tn_discipline.specs.declared.reads.Sig.TheVariants.{Int, Quit, Tstp}
 
+-- the line of a signal
 abbrev pub signal_line : Sig → List ℕ
 signal_line Int = codes "signal int\n"
 signal_line Quit = codes "signal quit\n"

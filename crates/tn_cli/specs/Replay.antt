@@ -1,4 +1,4 @@
--- What `tn replay` prints of a client's stream.
+-- The lines that `tn replay` prints of a client's stream.
 use Rattle.std.specs.{Prelude.{◌≡◌, ℕ, Option, Some, None, List, ◌++◌}, List.filter_map}
 use Rattle.std.specs.Io.KnownBytes.{Appends}
 use Rattle.tn_nvt.specs.declared.items.Item.{Item, TheVariants.{Byte, Newline, Cmd, Neg, Sub}}
@@ -39,7 +39,7 @@ pub record IsReplayOf (stream output : List ℕ) : Type 0 where
   pub reading : Reading stream items rest
   pub printed : output ≡ local_output (keys_of items)
 
--- the whole output was appended, where the writer tells what it holds
+-- the whole output was appended, if the writer's content is known
 abbrev pub Replays : List ℕ → Option (List ℕ) → Option (List ℕ) → Type 0
 Replays stream old new = (output : List ℕ) × IsReplayOf stream output × Appends old new output
 

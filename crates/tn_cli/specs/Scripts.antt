@@ -21,7 +21,7 @@ lines_of script = slice_split (λ byte. byte == 10) script
 abbrev pub words_of : List ℕ → List (List ℕ)
 words_of line = slice_split (λ byte. byte == 32) line
 
--- what decimal digits spell, where that is within a limit
+-- the number that decimal digits spell, if it is within a limit
 abbrev pub number_within : ℕ → List ℕ → Option ℕ
 number_within most [] = None
 number_within most (c ∷ cs) =
@@ -43,6 +43,7 @@ abbrev pub character : List ℕ → Option (Option ℕ)
 character (byte ∷ []) = Some (if byte == 255 then None else Some byte)
 character bytes = None
 
+-- the function of this name, if there is one
 abbrev pub func_named : List ℕ → Option Func
 func_named name =
     if bytes_eq name (codes "ip") then Some func.Ip
@@ -67,22 +68,26 @@ alone verb =
     else if bytes_eq verb (codes "client-stops") then Some (Happen event.ClientStops)
     else None
 
+-- a request that this side edit lines
 abbrev pub wish_command : List ℕ → Option Command
 wish_command name =
     if bytes_eq name (codes "local") then Some (Happen (event.Wish Local))
     else if bytes_eq name (codes "remote") then Some (Happen (event.Wish Remote))
     else None
 
+-- a setting of ECHO
 abbrev pub echo_command : List ℕ → Option Command
 echo_command name =
     if bytes_eq name (codes "on") then Some (Happen (event.Echo true))
     else if bytes_eq name (codes "off") then Some (Happen (event.Echo false))
     else None
 
+-- a forward mask that is taken back
 abbrev pub mask_command : List ℕ → Option Command
 mask_command name =
     if bytes_eq name (codes "off") then Some (Happen (event.Mask None)) else None
 
+-- a command that the client's user sends
 abbrev pub send_command : List ℕ → Option Command
 send_command name =
     if bytes_eq name (codes "brk") then Some (Happen (event.Send user.Brk))
@@ -123,10 +128,12 @@ with_bytes verb bytes =
     else if bytes_eq verb (codes "mask") then forward_command bytes
     else None
 
+-- a size of the window
 abbrev pub with_size : List ℕ → ℕ → ℕ → Option Command
 with_size verb width height =
     if bytes_eq verb (codes "resize") then Some (Happen (event.Resize width height)) else None
 
+-- a special character that is set or proposed
 abbrev pub with_character : List ℕ → Func → Option ℕ → Option Command
 with_character verb func value =
     if bytes_eq verb (codes "set") then Some (Happen (event.SetChar func value))
@@ -159,12 +166,13 @@ abbrev pub with_words : List ℕ → List ℕ → List ℕ → Option Command
 with_words verb first second =
     option_or (resize_command verb first second) (character_command verb first second)
 
+-- the command that these words are, if they are one
 abbrev pub command_of_words : List (List ℕ) → Option Command
 command_of_words (verb ∷ []) = alone verb
 command_of_words (verb ∷ word ∷ []) = with_word verb word
 command_of_words (verb ∷ first ∷ second ∷ []) = with_words verb first second
 command_of_words words = None
 
--- the command that a line is, where it is one
+-- the command that a line is, if it is one
 abbrev pub command_of : List ℕ → Option Command
 command_of line = command_of_words (words_of line)

@@ -4,23 +4,23 @@ use Rattle.std.specs.Io.KnownBytes.{Appends}
 use Rattle.tn_cli.specs.declared.fault.CliFault.{CliFault}
 use Rattle.tn_cli.specs.declared.fault.CliFault.TheVariants.{Read, TooLong, Script, World, Write, Memory}
 
--- how long an input may be, in bytes
+-- the most bytes of an input
 abbrev pub max_input : ℕ
 max_input = 1048576
 
--- how many reads an input may take
+-- the most reads of an input
 abbrev pub max_reads : ℕ
 max_reads = 2097152
 
--- how many reads a stream may take that is printed as it comes
+-- the most reads of a stream that is printed as it comes
 abbrev pub max_pieces : ℕ
 max_pieces = 18446744073709551615
 
--- how many writes an output may take
+-- the most writes of an output
 abbrev pub max_writes : ℕ
 max_writes = 18446744073709551615
 
--- what reading an input can fail by
+-- the faults by which reading an input can fail
 abbrev pub IsReadFault : CliFault → Type 0
 IsReadFault Read = Unit {0}
 IsReadFault TooLong = Unit {0}
@@ -29,7 +29,7 @@ IsReadFault (Script line) = ⊥
 IsReadFault (World line) = ⊥
 IsReadFault Write = ⊥
 
--- what writing lines as they come can fail by
+-- the faults by which writing lines as they come can fail
 abbrev pub IsPrintFault : CliFault → Type 0
 IsPrintFault Write = Unit {0}
 IsPrintFault Memory = Unit {0}
@@ -38,8 +38,8 @@ IsPrintFault TooLong = ⊥
 IsPrintFault (Script line) = ⊥
 IsPrintFault (World line) = ⊥
 
--- Of an input of which so many bytes were read before, a piece more is kept after all of those; or fewer
--- bytes are kept than were read.
+-- A piece more is kept of an input of which this number of bytes were read before, after all of those; or
+-- fewer bytes are kept than were read.
 abbrev pub KeepsPiece : ℕ → List ℕ → List ℕ → List ℕ → Type 0
 KeepsPiece count piece old new =
     ((length old ≡ count) × (new ≡ old ++ piece)) ⊎ (length new < count + length piece)

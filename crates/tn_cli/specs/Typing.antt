@@ -1,4 +1,4 @@
--- What `tn local` prints of keys.
+-- The lines that `tn local` prints of keys.
 use Rattle.std.specs.{Prelude.{◌≡◌, ℕ, Option, List, ◌++◌}, Io.KnownBytes.Appends}
 use Rattle.tn_discipline.specs.{Canon.{Canon, typed_entries}, Characters.standard_characters}
 use Rattle.tn_discipline.specs.{Keys.{roles_of, standard_flags}, Limits.standard_limit}
@@ -16,7 +16,7 @@ standard = record {
 abbrev pub local_output : List ℕ → List ℕ
 local_output keys = printed (typed_entries standard keys)
 
--- they were appended, where the writer tells what it holds
+-- the lines of these keys were appended, if the writer's content is known
 abbrev pub PrintsKeys : List ℕ → Option (List ℕ) → Option (List ℕ) → Type 0
 PrintsKeys keys old new = Appends old new (local_output keys)
 
@@ -24,10 +24,11 @@ PrintsKeys keys old new = Appends old new (local_output keys)
 abbrev pub PrintsKeysPrefix : List ℕ → Option (List ℕ) → Option (List ℕ) → Type 0
 PrintsKeysPrefix keys old new = AppendsPrefix old new (local_output keys)
 
--- how many bytes of printed entries are kept, and how many the line of one has at most
+-- the number of bytes of printed entries that are kept, and the most bytes of the line of one
 abbrev pub max_printed : ℕ
 max_printed = 65536
 
+-- the most bytes of the line of an entry
 abbrev pub max_entry : ℕ
 max_entry = 8198
 

@@ -1,4 +1,5 @@
--- What a stream has that is no item: what is dropped of it, and what is left unread at its end.
+-- The parts of a stream that are no item: those that are dropped, and the bytes that are left unread at its
+-- end.
 use Rattle.std.specs.Prelude.{◌≡◌, ℕ, ◌+◌, ◌<◌, ◌≤◌, min, List, [], ◌∷◌, ◌++◌, length}
 use Rattle.tn_codes.specs.{Codes.verb_code, declared.codes.Verb.Verb}
 use Rattle.tn_nvt.specs.{declared.items.Item.Item, Spelling.{cr, iac, sb, doubled_bytes}}
@@ -24,7 +25,7 @@ dropped_subnegotiation (escaped byte) = 0
 dropped_subnegotiation (unread bytes) = 1
 dropped_subnegotiation (cut bytes next) = 1
 
--- how many there are in segments
+-- the sum of a count over segments
 abbrev pub total : (Segment → ℕ) → List Segment → ℕ
 total count [] = 0
 total count (segment ∷ segments) = count segment + total count segments
@@ -41,7 +42,7 @@ IsLeft left.Iac rest = rest ≡ iac ∷ []
 IsLeft left.OptionWord rest = (verb : Verb) × (rest ≡ iac ∷ verb_code verb ∷ [])
 IsLeft left.Subnegotiation rest = (more : List ℕ) × (rest ≡ iac ∷ sb ∷ more)
 
--- of the stream's one reading
+-- the parts that are not printed of the stream's one reading
 pub record LeavesUnprinted (stream : List ℕ) (unprinted : Unprinted) : Type 0 where
   pub items : List Item
   pub rest : List ℕ
@@ -51,7 +52,7 @@ pub record LeavesUnprinted (stream : List ℕ) (unprinted : Unprinted) : Type 0 
       unprinted.dropped.subnegotiations ≡ counted (total dropped_subnegotiation reading.segments)
   pub left : IsLeft unprinted.left rest
 
--- so many bytes, or so many at least where the count is 514, which is too many
+-- this number of bytes, or at least this number if the count is 514, which is too many
 abbrev pub IsCount : ℕ → List ℕ → Type 0
 IsCount count bytes = (count ≤ length bytes) × (count < 514 → count ≡ length bytes)
 
@@ -66,7 +67,8 @@ StandsAt (Inside count) rest =
 StandsAt (InsideIac count) rest =
     (bytes : List ℕ) × IsCount count bytes × (rest ≡ iac ∷ sb ∷ doubled_bytes bytes ++ iac ∷ [])
 
--- what a rest and a byte complete, how much of that is dropped, and where it leads
+-- the segments that a rest and a byte complete, how much of them is dropped, and the state to which the byte
+-- leads
 pub record Reaches (rest : List ℕ) (byte : ℕ) (dropped : Dropped) (new : Stand) : Type 0 where
   pub segments : List Segment
   pub left : List ℕ
@@ -75,10 +77,11 @@ pub record Reaches (rest : List ℕ) (byte : ℕ) (dropped : Dropped) (new : Sta
   pub escapes : dropped.escapes ≡ total dropped_escape segments
   pub subnegotiations : dropped.subnegotiations ≡ total dropped_subnegotiation segments
 
+-- nothing was dropped
 abbrev pub none : Dropped
 none = record { escapes = 0; subnegotiations = 0 }
 
--- so it is from each rest at which a watch stands so
+-- a byte leads from a state so from each rest at which a watch is in that state
 abbrev pub Leads : Stand → ℕ → Dropped → Stand → Type 0
 Leads old byte dropped new = (rest : List ℕ) → StandsAt old rest → Reaches rest byte dropped new
 

@@ -1,4 +1,6 @@
-//! The words of the command line of `tn`, and what they ask for.
+//! The arguments of the command line of `tn`, and the run for which they ask.
+//!
+//! Begin with `read_words`, and with `Asked`, which is what it returns.
 //!
 //! ```
 //! let asked = read_words(alloc, &["tn", "connect", "--port", "2323"])?;

@@ -15,9 +15,15 @@ use tn_cores::streams::{Drain, Source, is_interrupted};
 use tn_net::printing::{Lines, Prefix};
 use tn_nvt::Decoder;
 
-/// Reads one direction of a Telnet stream to its end, and writes a line for each item of it as soon as the
-/// line is complete, where data that follow one another are joined and then cut. Returns what is not printed:
-/// what is dropped, and what is left at the end. Where a read fails, all that was read before is printed.
+/// Reads one direction of a Telnet stream to its end, and writes a line for each item of it as soon
+/// as the line is complete. Data that follow one another are joined and then cut. It returns the
+/// parts that are not printed: those that are dropped, and the bytes that are left at the end.
+///
+/// # Errors
+///
+/// - `Read`: a read failed; all that was read before is printed.
+/// - `Write`: a write failed, or took none of its bytes; a beginning of the lines was written.
+/// - `Memory`: there is no memory; a beginning of the lines was written.
 pub fn run_decode<R: Source, W: Drain>(
     alloc: Global,
     reader: &mut R,

@@ -1,4 +1,4 @@
-//! Why a subcommand ended early, and the status that its process ends with.
+//! The reasons why a subcommand ended early, and the status with which its process ends.
 
 ghost use Rattle.std.specs.Prelude.{◌≡◌};
 ghost use Rattle.tn_cli.specs.Faults.{status_of};
@@ -6,7 +6,7 @@ ghost use Rattle.tn_cli.specs.Faults.{status_of};
 use std::alloc::AllocError;
 use thiserror::Error;
 
-/// Why a subcommand ended early. Its text is what standard error shows after `tn: `.
+/// The reason why a subcommand ended early. Its text is what standard error shows after `tn: `.
 #[derive(Clone, Copy, Debug, PartialEq, Eq, Error)]
 pub enum CliFault {
     /// A read of the input failed, or the input did not end within the reads that a run makes.
@@ -39,7 +39,7 @@ impl From<AllocError> for CliFault {
 }
 
 impl CliFault {
-    /// The status that a process ends with after this fault.
+    /// Returns the status with which a process ends after this fault.
     pub fn status(self) -> u8
         ensures { result ≡ status_of self }
     {

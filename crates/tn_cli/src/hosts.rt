@@ -1,11 +1,15 @@
-//! The user's own file of hosts, and the words of `tn connect` that a host of it stands for.
+//! The user's own file of hosts, and the arguments of `tn connect` that a host of it stands for.
+//!
+//! Begin with `start_with`, which the program calls first, and with `HostsFault`, which says why a
+//! host stands for no arguments.
 //!
 //! ```
 //! let words = start_with(&rt, alloc, words, false, &mut rt.stdout())?;
 //! ```
 //!
-//! The file says no more than words of the command line can: what it says of a host is put before the user's
-//! own words, and all of them are read by `arguments`. A word of the user wins over the file.
+//! The file can do no more than arguments of the command line can: the options of a host's table
+//! are put before the user's own arguments, and `arguments` reads all of them. An argument of the
+//! user wins over the file.
 
 pub use expanding::{HostsFault, expand};
 pub use starting::start_with;

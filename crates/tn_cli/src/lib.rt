@@ -1,5 +1,8 @@
 //! The subcommands of `tn`, over any reader and writer.
 //!
+//! Begin with `run_local` and the other `run_` calls, and with `CliFault`, which says why one
+//! failed.
+//!
 //! ```
 //! run_local(alloc, &mut b"ab\x7fc\r".as_slice(), &mut output)?; // text 61630a
 //! ```

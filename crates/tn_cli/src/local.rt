@@ -13,6 +13,15 @@ use tn_cores::streams::{Drain, Source};
 
 /// Reads all keys, types them at one line with standard settings, and writes the entries that they
 /// give, one a line. Nothing is written before the input has ended.
+///
+/// # Errors
+///
+/// After any error but `Write` nothing was written.
+///
+/// - `Read`: a read failed, or the input did not end within 2,097,152 reads.
+/// - `TooLong`: the input is longer than 1,048,576 bytes.
+/// - `Write`: a write failed, or took none of its bytes; a beginning was written.
+/// - `Memory`: there is no memory.
 pub fn run_local<R: Source, W: Drain>(
     alloc: Global,
     reader: &mut R,

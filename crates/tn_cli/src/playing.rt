@@ -13,10 +13,10 @@ use std::alloc::{AllocError, Global};
 use std::slice;
 use tn_world::{Event, ToWhom, World};
 
-/// How often a world settles at most, in two rounds of deliveries each time.
+/// The most settlings of a world, of two rounds of deliveries each.
 const MAX_SETTLINGS: u32 = 32;
 
-/// Why a line was not run.
+/// The reason why a line was not run.
 #[derive(Clone, Copy)]
 pub(crate) enum Stop {
     /// The line is no command.

@@ -35,7 +35,8 @@ pub(crate) fn print_entry(entry: &Entry, out: &mut Vec<u8>) -> Result<(), AllocE
     }
 }
 
-/// Appends the line of the entry that these bytes give, closed by this byte or by none, where there is room.
+/// Appends the line of the entry that these bytes give, closed by this byte or by none, if there is
+/// room.
 pub(crate) fn put_line(held: &[u8], last: Option<u8>, out: &mut Vec<u8>)
     requires { vec_len out.old + (2 * length held.now + 8) ≤ vec_capacity out.old }
     ensures items { out.new.items ≡ out.old.items ++ printed_entry (line_of (with_byte held.now last)) }
@@ -47,7 +48,7 @@ pub(crate) fn put_line(held: &[u8], last: Option<u8>, out: &mut Vec<u8>)
     }
 }
 
-// The same of a line that is closed by no byte.
+// Appends the line of an entry that is closed by no byte, if there is room.
 fn put_held(held: &[u8], out: &mut Vec<u8>)
     requires { vec_len out.old + (2 * length held.now + 8) ≤ vec_capacity out.old }
     ensures items { out.new.items ≡ out.old.items ++ printed_entry (line_of held.now) }
@@ -61,7 +62,7 @@ fn put_held(held: &[u8], out: &mut Vec<u8>)
     put_text(&held[..front], held[front], out);
 }
 
-/// Appends the line of a signal, where there is room.
+/// Appends the line of a signal, if there is room.
 pub(crate) fn put_signal(sig: Sig, out: &mut Vec<u8>)
     requires { vec_len out.old + 12 ≤ vec_capacity out.old }
     ensures items { out.new.items ≡ out.old.items ++ printed_entry (Signal sig) }
@@ -70,7 +71,7 @@ pub(crate) fn put_signal(sig: Sig, out: &mut Vec<u8>)
     put_bytes(line_of_signal(sig), out);
 }
 
-// Appends bytes where there is room for them.
+// Appends bytes if there is room for them.
 fn put_bytes(bytes: &[u8], out: &mut Vec<u8>)
     requires { vec_len out.old + length bytes.now ≤ vec_capacity out.old }
     ensures items { out.new.items ≡ out.old.items ++ bytes.now }
@@ -79,7 +80,7 @@ fn put_bytes(bytes: &[u8], out: &mut Vec<u8>)
     let _room = out.extend_from_slice(bytes);
 }
 
-// Appends the line of a text that is these bytes and one more behind them.
+// Appends the line of a text that is these bytes and one more after them.
 fn put_text(bytes: &[u8], last: u8, out: &mut Vec<u8>)
     requires { vec_len out.old + (2 * length bytes.now + 8) ≤ vec_capacity out.old }
     ensures items { out.new.items ≡ out.old.items ++ printed_entry (Text (bytes.now ++ last ∷ [])) }
@@ -90,7 +91,7 @@ fn put_text(bytes: &[u8], last: u8, out: &mut Vec<u8>)
     *out = with_text(whole, bytes, last);
 }
 
-// The same where there is room, of a vector that is owned.
+// Appends the line of a text of these bytes and one more, to a vector that is owned and has room.
 fn with_text(out: Vec<u8>, bytes: &[u8], last: u8) -> Vec<u8>
     requires { vec_len out + (2 * length bytes.now + 8) ≤ vec_capacity out }
     ensures items { result.items ≡ out.items ++ printed_entry (Text (bytes.now ++ last ∷ [])) }
@@ -116,7 +117,7 @@ pub(crate) fn print_digits(bytes: &[u8], out: &mut Vec<u8>) -> Result<(), AllocE
     Ok(())
 }
 
-// Appends bytes in hexadecimal where there is room for them.
+// Appends bytes in hexadecimal if there is room for them.
 fn put_digits(bytes: &[u8], out: &mut Vec<u8>)
     requires { vec_len out.old + 2 * length bytes.now ≤ vec_capacity out.old }
     ensures items { out.new.items ≡ out.old.items ++ encode_lower bytes.now }
@@ -128,7 +129,8 @@ fn put_digits(bytes: &[u8], out: &mut Vec<u8>)
     *out = with_digits(whole, bytes);
 }
 
-// The same of a vector that the loop owns: so its length is at hand, and not in memory.
+// Appends bytes in hexadecimal to a vector that the loop owns, so that its length is in a register,
+// and not in memory.
 fn with_digits(out: Vec<u8>, bytes: &[u8]) -> Vec<u8>
     requires { vec_len out + 2 * length bytes.now ≤ vec_capacity out }
     ensures items { result.items ≡ out.items ++ encode_lower bytes.now }
@@ -144,7 +146,8 @@ fn with_digits(out: Vec<u8>, bytes: &[u8]) -> Vec<u8>
     out
 }
 
-// The two digits of a byte. They are read before either is written, so that both can go at once.
+// Returns the two digits of a byte. They are read before either is written, so that both can go at
+// once.
 fn pair(byte: u8) -> (u8, u8)
     ensures high { result.0 ≡ slice_index lower_digits (byte / 16) }
     ensures low { result.1 ≡ slice_index lower_digits (byte % 16) }

@@ -11,9 +11,18 @@ use std::alloc::{AllocError, Global};
 use tn_cores::streams::{Drain, Source};
 use tn_nvt::{Decoder, Item, Params, Refused, Sink};
 
-/// Reads a client's byte stream to its end, types its data bytes and new lines as keys at one line with
-/// standard settings, and writes the entries that they give, one a line. Commands, option words and
-/// subnegotiations are skipped. Nothing is written before the input has ended.
+/// Reads a client's byte stream to its end, types its data bytes and new lines as keys at one line
+/// with standard settings, and writes the entries that they give, one a line. Commands, option
+/// messages and subnegotiations are skipped. Nothing is written before the input has ended.
+///
+/// # Errors
+///
+/// After any error but `Write` nothing was written.
+///
+/// - `Read`: a read failed, or the input did not end within 2,097,152 reads.
+/// - `TooLong`: the input is longer than 1,048,576 bytes.
+/// - `Write`: a write failed, or took none of its bytes; a beginning was written.
+/// - `Memory`: there is no memory.
 pub fn run_replay<R: Source, W: Drain>(
     alloc: Global,
     reader: &mut R,
@@ -30,7 +39,7 @@ pub fn run_replay<R: Source, W: Drain>(
     write_entries(typing, &keys, writer)
 }
 
-// The keys of a stream.
+// Returns the keys of a stream.
 fn keys_of_stream(alloc: Global, stream: &[u8]) -> Result<Vec<u8>, AllocError>
     ensures { IfOk result (λ keys. AreKeysOf stream.now keys.items) }
 {
@@ -79,7 +88,7 @@ impl Sink for Gathered {
     }
 }
 
-// The key that an item stands for, if it stands for one.
+// Returns the key that an item stands for, if it stands for one.
 fn key_of_item(item: &Item) -> Option<u8>
     ensures { result ≡ key_of item.now }
 {

@@ -21,7 +21,7 @@ const MAX_SIZE: u32 = 65_535;
 /// The most octets of a forward mask.
 const MAX_OCTETS: usize = 32;
 
-/// What one line of a script asks for.
+/// The command of one line of a script.
 #[derive(Drop)]
 pub(crate) enum Command {
     /// The user types these keys.
@@ -40,7 +40,7 @@ pub(crate) enum Command {
     Shown,
 }
 
-/// The parts of some bytes that this byte separates.
+/// Returns the parts of some bytes that this byte separates.
 pub(crate) fn parts<'a>(
     alloc: Global,
     bytes: &'a [u8],
@@ -52,7 +52,7 @@ pub(crate) fn parts<'a>(
     bytes.split(|byte| *byte == mark).collect(alloc)
 }
 
-/// The command in a line, if it is one.
+/// Returns the command in a line, if it is one.
 pub(crate) fn read_command(alloc: Global, line: &[u8]) -> Result<Option<Command>, AllocError>
     ensures { IfOk result (λ command. command ≡ script.command_of line.now) }
 {
@@ -73,7 +73,7 @@ fn command_of_words(alloc: Global, words: &[&[u8]]) -> Result<Option<Command>, A
     }
 }
 
-// The value beside the name that this word equals, if it equals one.
+// The value next to the name that this word equals, if it equals one.
 macro_rules! value_of_word {
     ($word:expr; $($name:literal => $value:expr,)+) => {{
         $(if is_word($word, $name) {
@@ -281,7 +281,7 @@ fn func_named(name: &[u8]) -> Option<Func>
     }
 }
 
-// A special character is one byte; 255 disables the character.
+// Returns a special character, which is one byte; 255 disables the character.
 fn character(bytes: &[u8]) -> Option<Option<u8>>
     ensures { result ≡ script.character bytes.now }
 {
@@ -292,7 +292,8 @@ fn character(bytes: &[u8]) -> Option<Option<u8>>
     }
 }
 
-// The number that decimal digits spell, if it is within a limit. No sign is allowed; leading zeros are.
+// Returns the number that decimal digits spell, if it is within a limit. No sign is allowed;
+// leading zeros are.
 fn number_within(most: u32, word: &[u8]) -> Option<u32>
     ensures { result ≡ script.number_within most word.now }
 {
@@ -312,7 +313,7 @@ fn number_within(most: u32, word: &[u8]) -> Option<u32>
     Some(number as u32)
 }
 
-// The bytes that pairs of lower-case hexadecimal digits spell; at least one byte.
+// Returns the bytes that pairs of lower-case hexadecimal digits spell; at least one byte.
 fn hex_bytes(alloc: Global, word: &[u8]) -> Result<Option<Text>, AllocError>
     ensures { IfOk result (λ bytes. bytes ≡ script.hex_bytes word.now) }
 {

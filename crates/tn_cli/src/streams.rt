@@ -11,13 +11,13 @@ use crate::fault::CliFault;
 use std::alloc::Global;
 use tn_cores::streams::{Drain, Source, is_interrupted};
 
-/// How long an input may be, in bytes.
+/// The most bytes of an input.
 const MAX_BYTES: usize = 1_048_576;
 
-/// How many reads an input may take.
+/// The most reads of an input.
 const MAX_READS: u32 = 2_097_152;
 
-/// How many bytes one read asks for.
+/// The number of bytes for which one read asks.
 pub(crate) const PIECE_BYTES: usize = 32_768;
 
 /// Reads to the end of the input. An input that is too long is reported as such even when out of memory.
@@ -56,8 +56,8 @@ pub(crate) fn read_whole<R: Source>(alloc: Global, reader: &mut R) -> Result<Vec
     Err(CliFault::Read)
 }
 
-// Keeps the next piece of an input, after so many bytes. Once memory has run out, fewer bytes are kept
-// than were read, and no later piece is kept.
+// Keeps the next piece of an input, after this number of bytes. Once memory has run out, fewer
+// bytes are kept than were read, and no later piece is kept.
 fn keep(input: &mut Vec<u8>, count: usize, piece: &[u8])
     requires within { vec_len input.now ≤ count }
     requires some { 0 < length piece.now }
@@ -70,7 +70,7 @@ fn keep(input: &mut Vec<u8>, count: usize, piece: &[u8])
     }
 }
 
-// The input, if all bytes that were read are kept.
+// Returns the input, if all bytes that were read are kept.
 fn if_whole(input: Vec<u8>, count: usize) -> Result<Vec<u8>, CliFault>
     ensures whole { IfOk result (λ whole. whole ≡ input) }
     ensures ok { OnOk result (vec_len input ≡ count) }
@@ -97,7 +97,7 @@ pub(crate) fn write_whole<W: Drain>(writer: &mut W, output: &[u8]) -> Result<(),
     }
 }
 
-/// The same in at most so many writes; returns how many are left.
+/// Writes all of an output in at most this number of writes, and returns how many are left.
 pub(crate) fn write_within<W: Drain>(
     writer: &mut W,
     output: &[u8],

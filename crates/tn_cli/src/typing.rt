@@ -10,13 +10,13 @@ use crate::printed::{put_line, put_signal};
 use std::alloc::{AllocError, Global};
 use tn_discipline::{Limit, Line, Role, Roles, Settings};
 
-/// Of fewer bytes than this that join the line as they are, each is typed by itself.
+/// The number of bytes that join the line as they are, below which each is typed by itself.
 const FEW_BYTES: usize = 4;
 
-/// How many bytes of printed entries are kept before they are written.
+/// The number of bytes of printed entries that are kept before they are written.
 const PRINTED_BYTES: usize = 65_536;
 
-/// How many bytes the line of an entry has at most: of a text, two digits for each byte of the longest line.
+/// The most bytes of the line of an entry: of a text, two digits for each byte of the longest line.
 const ENTRY_BYTES: usize = 8_198;
 
 /// A line with standard settings, and the printed entries that it has given since the last were written.
@@ -42,14 +42,14 @@ impl Typing {
         })
     }
 
-    /// The printed entries that are to be written.
+    /// Returns the printed entries that are to be written.
     pub(crate) fn printed(&self) -> &[u8]
         ensures { result.now ≡ self.now.printed.items }
     {
         self.printed.as_slice()
     }
 
-    /// The printed entries were written.
+    /// Removes the printed entries, which were written.
     pub(crate) fn clear(&mut self)
         ensures printed { self.new.printed.items ≡ [] }
         ensures len { vec_len self.new.printed ≡ 0 }
@@ -107,7 +107,7 @@ impl Typing {
             self.enter(role);
             return;
         }
-        // Memory is wanted for a text alone.
+        // Memory is wanted only for a text.
         let _effect = self.line.play(role);
     }
 
@@ -140,7 +140,7 @@ impl Typing {
         }
     }
 
-    // Prints the line with this byte behind it, or with none, and empties it. No text is made of it.
+    // Prints the line with this byte after it, or with none, and empties it. No text is made of it.
     fn close(&mut self, last: Option<u8>)
         requires { vec_len self.old.printed + max_entry ≤ vec_capacity self.old.printed }
         ensures printed { let entry = line_of (with_byte self.old.line.held last) in
@@ -149,14 +149,14 @@ impl Typing {
         ensures roles { self.new.roles ≡ self.old.roles }
         ensures capacity { vec_capacity self.old.printed ≤ vec_capacity self.new.printed }
     {
-        // Nothing is done here; the proof that the line is short begins with what every limit is.
+        // No code is needed; the proof that the line is short begins with the range of every limit.
         let _limit = self.line.limit().bytes();
         put_line(self.line.held(), last, &mut self.printed);
         let _killed = self.line.kill();
     }
 }
 
-// The byte that a key of this role closes a line with, if it closes it with one.
+// Returns the byte with which a key of this role closes a line, if it closes it with one.
 fn closing(role: Role) -> Option<u8>
     ensures { result ≡ closing_byte role }
 {

@@ -1,4 +1,5 @@
-//! What a stream has that is no item: what is dropped of it, and what is left unread at its end.
+//! The parts of a stream that are no item: those that are dropped, and the bytes that are left
+//! unread at its end.
 
 ghost use Rattle.std.specs.Prelude.{◌≡◌, [], ◌∷◌, ◌++◌, List, ℕ};
 ghost use Rattle.tn_cli.specs.Unprinted.{IsCount, IsLeft, Leads, LeavesUnprinted, StandsAt, Watches};
@@ -20,7 +21,7 @@ const SB: u8 = 250;
 /// An option byte and 513 parameters: of a subnegotiation no more bytes are counted.
 const TOO_MANY: usize = 514;
 
-/// What is left unread at the end of a stream, which is less than an item.
+/// The bytes that are left unread at the end of a stream, which are less than an item.
 #[derive(Clone, Copy, PartialEq, Eq)]
 pub enum Left {
     Nothing,
@@ -32,30 +33,31 @@ pub enum Left {
     Subnegotiation,
 }
 
-/// How much of a stream was dropped. A count stops at the greatest `u64`.
+/// The amount of a stream that was dropped. A count stops at the greatest `u64`.
 #[derive(Clone, Copy, PartialEq, Eq)]
 pub struct Dropped {
     /// IAC and a byte that is no command.
     pub escapes: u64,
-    /// Subnegotiations without an option, with more than 512 parameters, or that another word cut off.
+    /// The number of subnegotiations without an option, with more than 512 parameters, or that
+    /// another command cut off.
     pub subnegotiations: u64,
 }
 
-/// What a stream has that is no item, and so is not printed.
+/// The parts of a stream that are no item, and so are not printed.
 #[derive(Clone, Copy, PartialEq, Eq)]
 pub struct Unprinted {
     pub dropped: Dropped,
     pub left: Left,
 }
 
-/// Where a stream stands between two bytes.
+/// The state of a stream between two bytes.
 #[derive(Clone, Copy)]
 pub(crate) enum Stand {
     Between,
     AfterCr,
     AfterIac,
     AfterVerb,
-    /// Within a subnegotiation, after so many of its bytes.
+    /// Within a subnegotiation, after this number of its bytes.
     Inside(usize),
     InsideIac(usize),
 }
@@ -114,7 +116,7 @@ impl Watch {
         };
     }
 
-    /// What is not printed of the stream where it ends here.
+    /// Returns the parts of the stream that are not printed if it ends at this byte.
     pub(crate) fn unprinted(&self) -> Unprinted
         ensures { (stream : List ℕ) → Watches stream self.now → LeavesUnprinted stream result }
     {
@@ -126,7 +128,7 @@ impl Watch {
 }
 
 impl Stand {
-    // Where one more byte leads, and what is dropped with it.
+    // Returns the state after one more byte, and what is dropped with it.
     fn step(self, byte: u8) -> (Stand, Dropped)
         ensures { Leads self byte result.1 result.0 }
     {
@@ -220,7 +222,7 @@ fn inside_iac(count: usize, byte: u8) -> (Stand, Dropped)
     (next, both)
 }
 
-// One more byte of a subnegotiation.
+// Returns the count after one more byte of a subnegotiation.
 fn longer(count: usize) -> usize
     ensures { (bytes : List ℕ) (byte : ℕ) → IsCount count bytes → IsCount result (bytes ++ byte ∷ []) }
 {
@@ -230,7 +232,7 @@ fn longer(count: usize) -> usize
     count
 }
 
-// What is dropped of a subnegotiation of so many bytes that has its IAC SE.
+// Returns what is dropped of a subnegotiation of this number of bytes that has its IAC SE.
 fn ended(count: usize) -> Dropped
     ensures { Leads (stand.InsideIac count) 240 result stand.Between }
 {

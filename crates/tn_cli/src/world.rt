@@ -15,9 +15,17 @@ use tn_cores::streams::{Drain, Source};
 use tn_discipline::{Limit, Settings};
 use tn_world::World;
 
-/// Reads a script of one command a line, runs it in a world that is opened with standard settings, and
-/// writes what the commands print. Nothing is written before the input has ended. Where a line is no
-/// command, or its command is refused, what the lines before it print is written.
+/// Reads a script of one command a line, runs it in a world that is opened with standard settings,
+/// and writes what the commands print. Nothing is written before the input has ended.
+///
+/// # Errors
+///
+/// - `Script`, `World`: a line is no command, or its command is refused; the output of the lines
+///   before it is written.
+/// - `Read`: a read failed, or the input did not end within 2,097,152 reads.
+/// - `TooLong`: the input is longer than 1,048,576 bytes.
+/// - `Write`: a write failed, or took none of its bytes; a beginning was written.
+/// - `Memory`: there is no memory.
 pub fn run_world<R: Source, W: Drain>(
     alloc: Global,
     reader: &mut R,

@@ -1,4 +1,4 @@
--- How much a client end sends at most.
+-- The most bytes that a client end sends.
 use Rattle.std.proofs.Common.{◌∙◌, ◌≡◌, ◌≢◌, ℕ, ◌+◌, ◌-◌, ◌*◌, ◌≤◌, ◌==◌, Bool, true, false, not, ◌&&◌, ◌||◌, Option, Some, None, List, [], ◌∷◌, ◌++◌, length}
 use Rattle.std.proofs.{Common.{take, drop, take-append-drop, refl, ap, arith, if◌then◌else◌}, lemmas.{List.map-append, Nat.and_le_r}}
 use Rattle.std.specs.{Prelude.bit_or, Int.{w16, to_be_bytes, Bits.or_add_and}}
@@ -294,7 +294,7 @@ weight-most : (item : Item) → Fits item → weight item ≤ 4 * length (spelli
 weight-most (Byte b) fits = omega arith
 weight-most _ fits = omega arith
 
--- what is sent, or held, for the bytes of a stream
+-- the bytes that are sent, or held, for the bytes of a stream
 pub sent_at_most : ((c : Characters) (t a : Triple) → client_answer c t ≡ Some a → Answers t a) → (h : History) (bytes : List ℕ) → IsRead bytes (items h)
     → bytes_due h ≤ 4 * length bytes + max_of_calls h + 4
 sent_at_most names h bytes (rest, reading) =

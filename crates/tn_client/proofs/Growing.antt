@@ -9,7 +9,7 @@ pub spells_bytes : (bytes : List ℕ) → flat_map (λ byte. spelling (Byte byte
 spells_bytes [] = refl
 spells_bytes (b ∷ bs) = ap (λ (xs : List ℕ). spelling (Byte b) ++ xs) (spells_bytes bs)
 
--- what was appended and what comes next are no longer than all of it
+-- the appended bytes and those that come next are no longer than all of it
 pub no_longer : (bytes : List ℕ) (i : ℕ) → i < length bytes → length (flat_map (λ byte. spelling (Byte byte)) (take i bytes))
     + length (spelling (Byte (get_or bytes i 0))) ≤ length (flat_map (λ byte. spelling (Byte byte)) bytes)
 no_longer [] i lt = absurd (omega (arith, lt))

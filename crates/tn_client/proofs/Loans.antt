@@ -1,4 +1,4 @@
--- What a client end did while it was lent to its decoder.
+-- The effects on a client end of being lent to its decoder.
 use Rattle.std.proofs.Common.{◌≡◌, ◌≢◌, ◌↔◌, ◌⊎◌, inl, inr, ℕ, List, [], ◌∷◌, ◌++◌, map, Result, Err, OnOk, IsErrOf, refl, sym, ap, ◌∙◌, append-nil, arith}
 use Rattle.std.proofs.Common.{subst}
 use Rattle.tn_nvt.specs.{Spelling.spells, Sinks.{IsRun, TakesEach, FeedsTo, StopsAtSink as RefusesRest, StopsForMemory, all_of, calls_of, bytes_of}}
@@ -83,7 +83,7 @@ gets_both a b c xs ys t g =
 gets_all : (a b : Lent) (calls : List (List Item)) → TakesEach TakesItems a calls b → GetsBy a (all_of calls) b
 gets_all a b calls t = taken_all TakesItems RefusesItems GetsBy gets_none (λ x y z xs ys u g. gets_both x y z xs ys u g) a b calls t
 
--- whatever the decoder answered
+-- the loan stays the same loan, whatever the decoder answered
 pub same_loan : (r : Result (Unit {0}) NvtFault) (old new : DecoderState) (piece : List ℕ) (a b : Lent) → OnOk r (FeedsTo TakesItems old piece a b new)
     → (IsErrOf r Refused → RefusesRest TakesItems RefusesItems old piece a b) → (IsErrOf r Memory → StopsForMemory TakesItems old piece a b)
     → (IsErrOf r Failed → b ≡ a) → IsSameLoan a b
@@ -117,7 +117,7 @@ feeds_of old new held d piece after now a b began hands is outs screens =
       shown = screens ∙ g.shown;
     }
 
--- where the first of some items was refused, all that is left gives up
+-- if the first of some items was refused, all that is left gives up
 gives_up : (end : End) (left later more : List Item) (item : Item) (part : List Item) (here : DecoderState) (back : List ℕ) → left ≡ item ∷ later
     → IsStopCause end (item ∷ later ++ more) part here back → IsStopCause end (left ++ more) part here back
 gives_up end left later more item part here back is g =

@@ -1,4 +1,4 @@
--- The roles of a key where ISIG is set, and where it is clear.
+-- The roles of a key if ISIG is set, and if it is clear.
 use Rattle.std.proofs.Common.{◌≡◌, ℕ, Bool, true, false, ◌==◌, Option, Some, None, refl, if◌then◌else◌}
 use Rattle.tn_discipline.specs.{Characters.{Characters, is_set_to}, declared.keys.Role.{Role, TheVariants.{Nl, Eol, Eol2, Eof, Erase, Kill, Signal}}}
 use Rattle.tn_discipline.specs.Keys.{standard_flags, mapped_key, signal_of, role_by_signal, role_of_mapped, role_or_ignored, role_of_key}
@@ -33,7 +33,7 @@ same_option : (c : Characters) (mapped : Option ℕ) → IsQuiet (role_or_ignore
 same_option c None quiet = refl
 same_option c (Some byte) quiet = same_mapped c byte quiet
 
--- a key that gives no signal where ISIG is set has one role
+-- a key that gives no signal if ISIG is set has one role
 pub same_role_either : (c : Characters) (key : ℕ) → IsQuiet (role_of_key (settings_by true c) key)
     → role_of_key (settings_by true c) key ≡ role_of_key (settings_by false c) key
 same_role_either c key quiet = same_option c (mapped_key standard_flags key) quiet

@@ -1,4 +1,5 @@
--- What a call of a client end answers, what one does that is done, and what one leaves that is refused.
+-- The result of a call of a client end, the effect of a call that is done, and the state after one that is
+-- refused.
 use Rattle.std.specs.Prelude.{◌≡◌, ℕ, Option, None, List, [], ◌∷◌, ◌++◌, Result, Ok, Err}
 use Rattle.tn_linemode.specs.Prefixes.{WantsMemory}
 use Rattle.tn_nvt.specs.{Feeding.DecoderState, Spelling.spells, declared.items.Item.Item}
@@ -19,7 +20,7 @@ pub record Feeds (old : End) (piece before after seen now : List ℕ) (new : End
   pub said : after ≡ before ++ spells (says_items old items)
   pub shown : now ≡ seen ++ items_shown items
 
--- The item is one that needs memory, and this is a prefix of what it makes the end say.
+-- The item is one that needs memory, and this is a prefix of its reply.
 pub record IsRefused (old : End) (item : Item) (part : List Item) : Type 0 where
   pub rest : List Item
   pub whole : says_got old item ≡ part ++ rest
@@ -45,12 +46,12 @@ pub record StopsWithin (old : End) (piece before after seen now : List ℕ) : Ty
   pub cause : (stream : List ℕ) (had : List Item) → nvt.LeadsTo stream had old.decoder
       → IsStopCause (end_after_items old done) left part here back
 
--- The end is as it was, and nothing was said.
+-- The end is as it was, and nothing was sent.
 pub record SaysNothing (old : End) (before after : List ℕ) (new : End) : Type 0 where
   pub end : new ≡ old
   pub out : after ≡ before
 
--- The same, and nothing was shown.
+-- The end is as it was, and nothing was sent or shown.
 pub record Untouched (old : End) (before after seen now : List ℕ) (new : End) : Type 0 where
   pub end : new ≡ old
   pub out : after ≡ before

@@ -19,14 +19,14 @@ pub record End : Type 0 where
   pub forward : Option Mask
   pub table : Characters
   pub line : HalfLine
-  -- the length of a half line that the server edits, with ISIG and without
+  -- the length of a half-typed line that the server edits, with ISIG and without
   pub trapped : ℕ
   pub plain : ℕ
   pub width : ℕ
   pub height : ℕ
   pub failed : Bool
 
--- this is where the history leads
+-- the history leads to this end
 pub record LeadsTo (h : History) (end : End) : Type 0 where
   pub options : end.options ≡ options h
   pub mode : end.mode ≡ mode h

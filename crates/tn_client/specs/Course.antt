@@ -6,8 +6,9 @@ use Rattle.tn_linemode.specs.Prefixes.{IsRead}
 use Rattle.tn_client.specs.Events.{Event, typed, got, resized, proposed, sent, History, begun, next, items}
 use Rattle.tn_client.specs.{Events.{entered, gets}, Calls.{End, LeadsTo}}
 
+-- a course: a start, pieces of the stream, and calls
 pub data Course : Type 0 where
-  -- with a window of this width and height, and lines of at most so many bytes
+  -- with a window of this width and height, and lines of at most this number of bytes
   started : ℕ → ℕ → ℕ → Course
   fed : Course → List ℕ → Course
   called : Course → Event → Course

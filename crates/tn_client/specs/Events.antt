@@ -1,4 +1,4 @@
--- What happens at a client end: keys are typed, a new line is entered, items come, the window changes,
+-- The events at a client end: keys are typed, a new line is entered, items come, the window changes,
 -- characters are proposed, and commands are sent.
 use Rattle.std.specs.Prelude.{ℕ, Option, List, [], ◌∷◌, ◌++◌}
 use Rattle.tn_codes.specs.declared.codes.Func.{Func}
@@ -15,19 +15,19 @@ pub data Event : Type 0 where
   proposed : Func → Option ℕ → Event
   sent : UserCommand → Event
 
--- What has happened since the end was started with a window of this width and height, and with lines of at
--- most so many bytes with the closing one; the latest at the right.
+-- The events since the end was started with a window of this width and height, and with lines of at most this
+-- number of bytes with the closing one; the latest at the right.
 pub data History : Type 0 where
   begun : ℕ → ℕ → ℕ → History
   next : History → Event → History
 
--- the items alone
+-- the items of a history
 abbrev pub items : History → List Item
 items (begun width height limit) = []
 items (next h (got item)) = items h ++ item ∷ []
 items (next h _) = items h
 
--- the keys alone
+-- the keys of a history
 abbrev pub keys : History → List ℕ
 keys (begun width height limit) = []
 keys (next h (typed key)) = keys h ++ key ∷ []

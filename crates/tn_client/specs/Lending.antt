@@ -1,11 +1,11 @@
--- What a client end takes while it is lent to its decoder.
+-- The items that a client end takes while it is lent to its decoder.
 use Rattle.std.specs.Prelude.{◌≡◌, List, ◌∷◌, ◌++◌}
 use Rattle.tn_linemode.specs.Prefixes.{AppendsPrefix}
 use Rattle.tn_nvt.specs.{Spelling.spells, declared.items.Item.Item}
 use Rattle.tn_client.specs.Steps.{says_got, end_after_items, says_items, items_shown, MayWantMemory}
 use Rattle.tn_client.specs.declared.taking.Lent.{Lent}
 
--- the same end is lent, and what it appends to
+-- one end is lent before and after, with one vector to which it appends
 pub record IsSameLoan (old new : Lent) : Type 0 where
   pub end : new.end.ghost_name ≡ old.end.ghost_name
   pub out : new.out.ghost_name ≡ old.out.ghost_name
@@ -18,7 +18,7 @@ pub record TakesItems (old : Lent) (items : List Item) (new : Lent) : Type 0 whe
   pub said : new.out.now.items ≡ old.out.now.items ++ spells (says_items old.end.now items)
   pub shown : new.screen.now.items ≡ old.screen.now.items ++ items_shown items
 
--- The first of these items was refused, when a prefix of what it makes the end say was said.
+-- The first of these items was refused, when a prefix of its reply was appended.
 pub record RefusesItems (old : Lent) (items : List Item) (new : Lent) : Type 0 where
   pub same : IsSameLoan old new
   pub item : Item

@@ -1,4 +1,4 @@
--- What a client end says: items, one after another.
+-- The replies of a client end: items, one after another.
 use Rattle.std.specs.Prelude.{ℕ, Bool, true, false, not, ◌&&◌, ◌==◌, Option, Some, None, List, [], ◌∷◌, ◌++◌}
 use Rattle.std.specs.Prelude.{map, if◌then◌else◌}
 use Rattle.tn_codes.specs.declared.{codes.{Command.Command, Func.Func}, masks.Mask.Mask}
@@ -34,7 +34,7 @@ func_of role.Erase = Some func.Ec
 func_of role.Kill = Some func.El
 func_of _ = None
 
--- and the command of a stream that stands for it
+-- the command of a stream that stands for a function, if there is one
 abbrev pub command_for : Option Func → Option Command
 command_for (Some func.Ip) = Some command.Ip
 command_for (Some func.Abort) = Some command.Abort
@@ -44,9 +44,11 @@ command_for (Some func.Ec) = Some command.Ec
 command_for (Some func.El) = Some command.El
 command_for _ = None
 
+-- the command that stands for a key of this role
 abbrev pub command_of : Role → Option Command
 command_of r = command_for (func_of r)
 
+-- a command as an item, if there is one
 abbrev pub command_items : Option Command → List Item
 command_items None = []
 command_items (Some command) = Cmd command ∷ []
@@ -57,8 +59,8 @@ abbrev pub raw_items : Role → Item → List Item
 raw_items (role.Signal sig) item = command_items (command_of (role.Signal sig))
 raw_items _ item = item ∷ []
 
--- With EDIT a line is sent once it is closed, and a signal at once. An erasure is sent where it reaches what
--- was sent before.
+-- With EDIT a line is sent once it is closed, and a signal at once. An erasure is sent if it reaches bytes
+-- that were sent before.
 abbrev pub edited_key_items : Role → HalfLine → List Item
 edited_key_items role.Nl l = byte_items l.held ++ Newline ∷ []
 edited_key_items (role.Eol byte) l = byte_items l.held ++ Byte byte ∷ []
@@ -76,6 +78,7 @@ abbrev pub sent_ahead_items : Bool → HalfLine → List Item
 sent_ahead_items true l = byte_items l.held
 sent_ahead_items false l = []
 
+-- the items that a key of this role sends if the client edits: a closed line, a signal, or all held bytes
 abbrev pub edit_items : Option Mask → Role → HalfLine → List Item
 edit_items forward r l =
     edited_key_items r l ++ sent_ahead_items (sends_ahead forward l.limit (line_length l) r) (line_after l r)
@@ -85,7 +88,7 @@ abbrev pub sent_as : Bool → ℕ → Item
 sent_as true key = Newline
 sent_as false key = Byte key
 
--- what a key sends, which is this item if it is sent at once
+-- the items that a key sends, which is this item if it is sent at once
 abbrev pub typed_items : Bool → Option Mask → Role → HalfLine → Item → List Item
 typed_items true forward r l item = edit_items forward r l
 typed_items false forward r l item = raw_items r item
@@ -94,7 +97,7 @@ typed_items false forward r l item = raw_items r item
 abbrev pub size_items : ℕ × ℕ → List Item
 size_items (width, height) = payload_items (Naws width height)
 
--- the size, where NAWS came on
+-- the size, if NAWS came on
 abbrev pub new_size_items : Bool → Bool → ℕ × ℕ → List Item
 new_size_items was on z = if on && not was then size_items z else []
 
@@ -114,17 +117,18 @@ answer_items o m c z (Neg verb option) =
 answer_items o m c z (Sub option params) = payload_answers m c (payload_at o (Sub option params))
 answer_items o m c z _ = []
 
--- what is held is sent where EDIT ends
+-- the held bytes are sent when EDIT ends
 abbrev pub end_of_edit_items : Bool → Bool → List ℕ → List Item
 end_of_edit_items true false bytes = byte_items bytes
 end_of_edit_items true true bytes = []
 end_of_edit_items false after bytes = []
 
--- what an item makes the client say
+-- the reply of the client to an item
 abbrev pub item_replies : Options → ℕ → Characters → ℕ × ℕ → HalfLine → Item → List Item
 item_replies o m c z l item =
     end_of_edit_items (edits m) (edits (mode_at o m item)) l.held ++ answer_items o m c z item
 
+-- the two sizes are equal
 abbrev pub is_same_size : ℕ × ℕ → ℕ × ℕ → Bool
 is_same_size (a, b) (c, d) = a == c && b == d
 
@@ -139,7 +143,7 @@ command_sent user.Ip = command.Ip
 command_sent user.Ayt = command.Ayt
 command_sent user.Nop = command.Nop
 
--- what the client says at an event
+-- the items that the client sends at an event
 abbrev pub replies : History → Event → List Item
 replies h (typed key) = typed_items (edits (mode h)) (forward h) (role_at h key) (line h) (Byte key)
 replies h entered = typed_items (edits (mode h)) (forward h) (role_at h lf) (line h) Newline
@@ -148,7 +152,7 @@ replies h (resized width height) = resize_items (tells_size (options h)) (size h
 replies h (proposed func value) = list_items (triple_of func value ∷ [])
 replies h (sent command) = Cmd (command_sent command) ∷ []
 
--- what was said
+-- all that was sent
 abbrev pub items_said : History → List Item
 items_said (begun width height limit) = []
 items_said (next h e) = items_said h ++ replies h e

@@ -1,5 +1,5 @@
--- One event at a client end, as a step from its state: the end after the event, what it says and what it shows.
--- The law `steps_stand` ties these steps to histories.
+-- One event at a client end, as a step from its state: the end after the event, what it sends and what it
+-- shows. The law `steps_stand` ties these steps to histories.
 use Rattle.std.specs.Prelude.{◌≡◌, ◌≢◌, ◌⊎◌, ℕ, Bool, true, IsTrue, false, Option, List, [], ◌++◌, length}
 use Rattle.std.specs.{Prelude.{take, Vec, ◌∷◌, if◌then◌else◌}, List.flat_map}
 use Rattle.tn_codes.specs.declared.{masks.Mask.Mask, payloads.Payload.Payload}
@@ -27,15 +27,17 @@ role_now old key = role_of_typed old.mode old.table key
 abbrev pub is_sent_now : Option Mask → HalfLine → Role → Bool
 is_sent_now forward l r = sends_ahead forward l.limit (line_length l) r
 
+-- the line after all held bytes were sent, if they were
 abbrev pub line_sent : Bool → HalfLine → HalfLine
 line_sent true l = line_released l
 line_sent false l = l
 
+-- the line after a key of this role, if the client edits
 abbrev pub line_typed : Bool → Option Mask → HalfLine → Role → HalfLine
 line_typed true forward l r = line_sent (is_sent_now forward l r) (line_after l r)
 line_typed false forward l r = l
 
--- the plain count of a half line after one more key, where the server edits it under this ISIG
+-- the plain count of a half-typed line after one more key, if the server edits it under this ISIG
 abbrev pub count_typed : Bool → Bool → End → ℕ → ℕ → ℕ
 count_typed true isig old count key = count
 count_typed false isig old count key =
@@ -58,10 +60,11 @@ end_after_count old key =
       plain = count_typed false false old old.plain key;
     }
 
--- a key says this; it is this item if it is sent at once
+-- the items that a key sends; it is this item if it is sent at once
 abbrev pub says_typed : End → ℕ → Item → List Item
 says_typed old key item = typed_items (edits old.mode) old.forward (role_now old key) old.line item
 
+-- the items that a key sends
 abbrev pub says_key : End → ℕ → List Item
 says_key old key = says_typed old key (Byte key)
 
@@ -74,32 +77,35 @@ abbrev pub sends_where : Option Mask → Role → Effect → Bool
 sends_where forward (role.Ordinary byte) effect.Kept = is_forward forward byte
 sends_where forward _ _ = false
 
+-- the bytes that a key shows
 abbrev pub shows_key : End → ℕ → List ℕ
 shows_key old key =
     let terminal = key_settings old.mode old.table in
     key_shown (is_echoed old.options) (edits old.mode) terminal (role_now old key) old.line key
 
--- what it says does not fit what is allocated, or what it shows does not, or it gives a text
+-- the bytes that it sends do not fit what is allocated, or those that it shows do not, or it gives a text
 abbrev pub LacksMemoryBy : {Y Z : Type 0} → End → ℕ → Item → Vec ℕ Y → Vec ℕ Z → Type 0
 LacksMemoryBy old key item out screen =
     LacksRoom out (length (spells (says_typed old key item)))
     ⊎ (LacksRoom screen (length (shows_key old key))
     ⊎ (IsTrue (edits old.mode) × GivesText old.line (role_now old key)))
 
+-- a key lacks memory for what it sends or shows, or for a text
 abbrev pub LacksMemoryFor : {Y Z : Type 0} → End → ℕ → Vec ℕ Y → Vec ℕ Z → Type 0
 LacksMemoryFor old key out screen = LacksMemoryBy old key (Byte key) out screen
 
+-- a new line lacks memory for what it sends or shows, or for a text
 abbrev pub LacksMemoryToEnter : {Y Z : Type 0} → End → Vec ℕ Y → Vec ℕ Z → Type 0
 LacksMemoryToEnter old out screen = LacksMemoryBy old lf Newline out screen
 
--- the line where the mask changes: EDIT ends with nothing held, and begins with so many bytes ahead
+-- the line when the mask changes: EDIT ends with nothing held, and begins with this number of bytes ahead
 abbrev pub line_left : Bool → Bool → ℕ → HalfLine → HalfLine
 line_left true false count l = empty_line l.limit
 line_left false true count l = line_resumed l.limit count
 line_left true true count l = l
 line_left false false count l = l
 
--- a count where the mask changes: the whole half line is counted once EDIT ends, and none once it begins
+-- a count when the mask changes: the whole half-typed line is counted once EDIT ends, and none once it begins
 abbrev pub count_left : Bool → Bool → HalfLine → ℕ → ℕ
 count_left true false l count = line_length l
 count_left false true l count = 0
@@ -110,7 +116,7 @@ count_left false false l count = count
 abbrev pub count_told : ℕ → ℕ → ℕ → ℕ
 count_told mask trapped plain = if traps mask then trapped else plain
 
--- the end once the server edits the half line, and once it is edited here
+-- the end once the server edits the half-typed line, and once the client edits it
 abbrev pub end_handed_over : End → End
 end_handed_over old =
     record old {
@@ -119,6 +125,7 @@ end_handed_over old =
       plain = line_length old.line;
     }
 
+-- the end once the client edits the half-typed line, which the server has whole
 abbrev pub end_taken_over : End → Bool → End
 end_taken_over old isig =
     record old {
@@ -127,6 +134,7 @@ end_taken_over old isig =
       plain = 0;
     }
 
+-- the end with this mask in force
 abbrev pub with_mode : End → ℕ → End
 with_mode old mask =
     record old {
@@ -136,7 +144,7 @@ with_mode old mask =
       plain = count_left (edits old.mode) (edits mask) old.line old.plain;
     }
 
--- what is held is told where EDIT ends
+-- the held bytes are sent when EDIT ends
 abbrev pub says_mode : End → ℕ → List Item
 says_mode old mask = end_of_edit_items (edits old.mode) (edits mask) old.line.held
 
@@ -149,6 +157,7 @@ end_after_item old item =
       table = chars_by old.table (payload_at old.options item);
     }
 
+-- the reply to an item
 abbrev pub says_got : End → Item → List Item
 says_got old item = item_replies old.options old.mode old.table (old.width, old.height) old.line item
 
@@ -160,6 +169,7 @@ end_after_payload old payload =
       table = chars_by old.table payload;
     }
 
+-- the reply to a payload
 abbrev pub says_sub : End → Option Payload → List Item
 says_sub old payload = says_mode old (mode_by old.mode payload) ++ payload_answers old.mode old.table payload
 
@@ -167,10 +177,11 @@ says_sub old payload = says_mode old (mode_by old.mode payload) ++ payload_answe
 abbrev pub end_after_resize : End → ℕ → ℕ → End
 end_after_resize old width height = record old { width = width; height = height }
 
+-- the items that a new size sends
 abbrev pub says_resize : End → ℕ → ℕ → List Item
 says_resize old width height = resize_items (tells_size old.options) (old.width, old.height) (width, height)
 
--- ANY EVENT: the end after it, what it says and what it shows
+-- ANY EVENT: the end after it, what it sends and what it shows
 abbrev pub end_after : End → Event → End
 end_after old (typed key) = end_after_key old key
 end_after old entered = end_after_key old lf
@@ -179,6 +190,7 @@ end_after old (resized width height) = end_after_resize old width height
 end_after old (proposed func value) = old
 end_after old (sent command) = old
 
+-- the items that the end sends at an event
 abbrev pub says : End → Event → List Item
 says old (typed key) = says_key old key
 says old entered = says_new_line old
@@ -187,6 +199,7 @@ says old (resized width height) = says_resize old width height
 says old (proposed func value) = list_items (triple_of func value ∷ [])
 says old (sent command) = Cmd (command_sent command) ∷ []
 
+-- the bytes that the end shows at an event
 abbrev pub displays : End → Event → List ℕ
 displays old (typed key) = shows_key old key
 displays old entered = shows_key old lf
@@ -197,24 +210,26 @@ displays old e = []
 abbrev pub end_after_items : End → List Item → End
 end_after_items old items = after_all end_after_item old items
 
+-- the items that the end sends at items, one after another
 abbrev pub says_items : End → List Item → List Item
 says_items old items = said_all end_after_item says_got old items
 
+-- the bytes that items show, one after another
 abbrev pub items_shown : List Item → List ℕ
 items_shown items = flat_map item_shown items
 
--- what the end says at the event does not fit what is allocated
+-- the items that the end sends at the event do not fit what is allocated
 abbrev pub LacksRoomFor : {Z : Type 0} → End → Event → Vec ℕ Z → Type 0
 LacksRoomFor old e out = LacksRoom out (length (spells (says old e)))
 
--- the event makes the end say or show something
+-- the event makes the end send or show something
 abbrev pub SaysOrShows : End → Event → Type 0
 SaysOrShows old e = (says old e ≢ []) ⊎ (displays old e ≢ [])
 
--- an item needs memory: to say or to show something, or to read a list
+-- an item needs memory: to send or to show something, or to read a list
 abbrev pub MayWantMemory : End → Item → Type 0
 MayWantMemory old item = (says_got old item ≢ []) ⊎ ((item_shown item ≢ []) ⊎ ReadsList old.options item)
 
--- it begins as before
+-- the later bytes begin with the earlier ones
 abbrev pub Begins : List ℕ → List ℕ → Type 0
 Begins before after = take (length before) after ≡ before

@@ -1,5 +1,5 @@
--- What a client end has agreed on with its server: options, special characters, the mode of editing and the
--- forward mask.
+-- The terms on which a client end has agreed with its server: options, special characters, the mode of
+-- editing and the forward mask.
 use Rattle.std.specs.Prelude.{ℕ, Bool, true, false, ◌&&◌, ◌==◌, Option, Some, None, [], ◌∷◌, if◌then◌else◌}
 use Rattle.tn_codes.specs.OptionCodes as option_code
 use Rattle.tn_codes.specs.declared.{masks.Mask.Mask, payloads.Payload.Payload}
@@ -17,10 +17,11 @@ abbrev pub agreement : Agree
 agreement =
     record { us = false ∷ true ∷ true ∷ true ∷ []; them = true ∷ true ∷ false ∷ false ∷ [] }
 
+-- LINEMODE is on at the client's side
 abbrev pub linemode : Options → Bool
 linemode o = is_yes (state_of o Us option_code.linemode)
 
--- the client tells its window's size (RFC 1073)
+-- the client sends its window's size (RFC 1073)
 abbrev pub tells_size : Options → Bool
 tells_size o = is_yes (state_of o Us option_code.naws)
 
@@ -28,7 +29,7 @@ tells_size o = is_yes (state_of o Us option_code.naws)
 abbrev pub is_echoed : Options → Bool
 is_echoed o = is_yes (state_of o Them option_code.echo)
 
--- the payload of LINEMODE that an item brings, where LINEMODE is on
+-- the payload of LINEMODE that an item brings, if LINEMODE is on
 abbrev pub payload_at : Options → Item → Option Payload
 payload_at o (Sub option params) =
     payload_under ((option == option_code.linemode) && linemode o) option params
@@ -39,7 +40,7 @@ abbrev pub options_after : Options → Item → Options
 options_after o (Neg verb option) = options_after_word o verb option
 options_after o _ = o
 
--- the client starts no word
+-- the client sends no message of its own accord
 abbrev pub options : History → Options
 options (begun width height limit) = new_options agreement
 options (next h (got item)) = options_after (options h) item
@@ -60,6 +61,7 @@ mode_at o mode (Neg verb option) = if changes o (options_after_word o verb optio
 mode_at o mode (Sub option params) = mode_by mode (payload_at o (Sub option params))
 mode_at o mode _ = mode
 
+-- the mask in force after a history
 abbrev pub mode : History → ℕ
 mode (begun width height limit) = 0
 mode (next h (got item)) = mode_at (options h) (mode h) item
@@ -78,11 +80,13 @@ forward_at o forward (Neg verb option) =
 forward_at o forward (Sub option params) = forward_by forward (payload_at o (Sub option params))
 forward_at o forward _ = forward
 
+-- the forward mask after a history
 abbrev pub forward : History → Option Mask
 forward (begun width height limit) = None
 forward (next h (got item)) = forward_at (options h) (forward h) item
 forward (next h _) = forward h
 
+-- the special characters after a list of local characters
 abbrev pub chars_by : Characters → Option Payload → Characters
 chars_by c (Some (Slc triples)) = client_after c triples
 chars_by c _ = c

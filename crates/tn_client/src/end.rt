@@ -36,9 +36,9 @@ pub struct ClientEnd {
     pub(crate) forward: Option<Mask>,
     pub(crate) table: ClientTable,
     pub(crate) line: Line,
-    /// The length of a half line that the server edits, where its ISIG is set.
+    /// The length of a half-typed line that the server edits, if its ISIG is set.
     pub(crate) trapped: u16,
-    /// The same where it is clear.
+    /// The length of a half-typed line that the server edits, if its ISIG is clear.
     pub(crate) plain: u16,
     pub(crate) width: u16,
     pub(crate) height: u16,
@@ -68,7 +68,7 @@ impl Model for ClientEnd {
     ghost invariant = { λ e. (e.trapped < e.line.limit) × (e.plain < e.line.limit) };
 }
 
-// The answer of a key: where it found no memory, what it sent is taken back.
+// Returns the answer of a key. If there was no memory, what it sent is taken back.
 fn or_memory(
     typed: Result<(), AllocError>,
     sent: usize,
@@ -89,8 +89,13 @@ fn or_memory(
 }
 
 impl ClientEnd {
-    /// Starts an end whose window has this size, in characters; 0 where a side is not known. It
-    /// writes nothing by itself: the server speaks first.
+    /// Starts an end whose window has this size, in characters; 0 for a dimension that is not
+    /// known. Its lines have at most `limit` bytes. It appends nothing by itself: the server begins
+    /// the negotiation.
+    ///
+    /// # Errors
+    ///
+    /// - `Memory`: there is no memory for the line.
     pub fn start(
         alloc: Global,
         width: u16,
@@ -125,9 +130,14 @@ impl ClientEnd {
         })
     }
 
-    /// Types a key. Its echo, where the server does not echo, is appended to `screen`. `Failed` after a
-    /// refused piece; `Memory` where what it says, shows or gives as a text finds none: it counts as not
-    /// typed.
+    /// Types a key. Its echo is appended to `screen`, unless the server echoes.
+    ///
+    /// # Errors
+    ///
+    /// After an error nothing has changed: the key counts as not typed.
+    ///
+    /// - `Failed`: a piece was refused before.
+    /// - `Memory`: there is no memory for the bytes that it sends or shows, or for a text.
     pub fn key(
         &mut self,
         key: u8,
@@ -148,8 +158,16 @@ impl ClientEnd {
         self.type_as(key, false, out, screen)
     }
 
-    /// Enters a new line: types the key LF, which goes to the server as CR LF, also if keys go one at a time
-    /// (RFC 1123, section 3.3.1). It shows and refuses what `key` does.
+    /// Enters a new line: types the key LF, which goes to the server as CR LF, also if keys go one
+    /// at a time (RFC 1123, section 3.3.1). Its echo is appended to `screen`, unless the server
+    /// echoes.
+    ///
+    /// # Errors
+    ///
+    /// After an error nothing has changed: the key counts as not typed.
+    ///
+    /// - `Failed`: a piece was refused before.
+    /// - `Memory`: there is no memory for the bytes that it sends or shows, or for a text.
     pub fn new_line(&mut self, out: &mut Vec<u8>, screen: &mut Vec<u8>) -> Result<(), ClientFault>
         ensures step { OnOk result (self.new ≡ end_after_key self.old lf) }
         ensures out { OnOk result
@@ -194,8 +212,14 @@ impl ClientEnd {
         or_memory(self.pass(key, is_line, out, screen), sent, out)
     }
 
-    /// Takes bytes that came from the server, cut anywhere. After `Memory`, for what is said or shown, a list
-    /// of characters or a parameter, the end has failed.
+    /// Takes a piece of the server's stream, cut anywhere, and appends replies to `out` and text to
+    /// `screen`.
+    ///
+    /// # Errors
+    ///
+    /// - `Memory`: there is no memory for a reply, for text, for a list of characters or for a
+    ///   parameter. The end has failed, and both vectors hold what came before.
+    /// - `Failed`: a piece was refused before; nothing changes.
     pub fn feed(
         &mut self,
         piece: &[u8],
@@ -206,7 +230,7 @@ impl ClientEnd {
             out.old.items out.new.items screen.old.items screen.new.items self.new) }
         ensures failed { AnswersBy (call_fault self.old) result }
 
-        // Some items were done, and it is said why no more were.
+        // Some items were done, and the clause says why no more were.
         ensures memory { IsErrOf result ClientFault.Memory → StopsWithin self.old piece.now
             out.old.items out.new.items screen.old.items screen.new.items }
         ensures err { OnErr result (IsTrue self.new.failed) }
@@ -233,7 +257,15 @@ impl ClientEnd {
         }
     }
 
-    /// Takes a new size of the window, in characters, and tells it where NAWS is on and it changed.
+    /// Takes a new size of the window, in characters, and sends it if NAWS is on and the size
+    /// changed (RFC 1073).
+    ///
+    /// # Errors
+    ///
+    /// After an error nothing has changed.
+    ///
+    /// - `Failed`: a piece was refused before.
+    /// - `Memory`: there is no memory for the size.
     pub fn resize(&mut self, width: u16, height: u16, out: &mut Vec<u8>) -> Result<(), ClientFault>
         ensures step { OnOk result (self.new ≡ end_after_resize self.old width height) }
         ensures out { OnOk result
@@ -287,9 +319,17 @@ impl ClientEnd {
         put_payload(&Payload::Naws { width, height }, out)
     }
 
-    /// Proposes a special character to the server, or none by `None`. Nothing changes here until the
-    /// server agrees. `NotOn` where LINEMODE is not on, `Char` as `Chars::set` refuses it; `Failed`,
-    /// `Memory`.
+    /// Proposes a special character to the server, or none by `None` (RFC 1184, section 2.4). The
+    /// client's table does not change until the server acknowledges the proposal.
+    ///
+    /// # Errors
+    ///
+    /// After an error nothing was sent.
+    ///
+    /// - `NotOn`: LINEMODE is not on.
+    /// - `Char`: the client's own table cannot have that character; the fault says why.
+    /// - `Failed`: a piece was refused before.
+    /// - `Memory`: there is no memory for the triple.
     pub fn propose(
         &mut self,
         func: Func,
@@ -319,8 +359,15 @@ impl ClientEnd {
         }
     }
 
-    /// Sends a command at once, before what is held of a line, which stays as it is. Nothing is shown.
-    /// `Failed` after a refused piece, `Memory` for what it says.
+    /// Sends a command at once, before the bytes of a line that are held, which stay as they are.
+    /// Nothing is shown.
+    ///
+    /// # Errors
+    ///
+    /// After an error nothing was sent.
+    ///
+    /// - `Failed`: a piece was refused before.
+    /// - `Memory`: there is no memory for the two bytes.
     pub fn send(&mut self, command: UserCommand, out: &mut Vec<u8>) -> Result<(), ClientFault>
         ensures step { OnOk result (self.new ≡ self.old) }
         ensures out { OnOk result
@@ -339,7 +386,7 @@ impl ClientEnd {
         }
     }
 
-    /// The mask in force: EDIT and TRAPSIG (RFC 1184, section 2.2).
+    /// Returns the mask in force: EDIT (1) and TRAPSIG (2) (RFC 1184, section 2.2).
     pub fn mode(&self) -> u8
         ensures value { result ≡ self.now.mode }
         ensures stands { (h : History) → LeadsTo h self.now → result ≡ mode h }
@@ -347,7 +394,7 @@ impl ClientEnd {
         self.mode.current().mask()
     }
 
-    /// The bytes of the half line that are held here.
+    /// Returns the bytes of the half-typed line that the client holds.
     pub fn half(&self) -> &[u8]
         ensures value { result.now ≡ self.now.line.held }
         ensures stands { (h : History) → LeadsTo h self.now → result.now ≡ held_bytes h }
@@ -355,7 +402,8 @@ impl ClientEnd {
         self.line.held()
     }
 
-    /// How many bytes of the half line were sent before those that are held.
+    /// Returns the number of bytes of the half-typed line that were sent before those that are
+    /// held.
     pub fn ahead(&self) -> u16
         ensures value { result ≡ self.now.line.ahead }
         ensures stands { (h : History) → LeadsTo h self.now → result ≡ ahead h }
@@ -363,8 +411,9 @@ impl ClientEnd {
         self.line.ahead()
     }
 
-    /// How many bytes the half line has that the server edits, as counted here by the roles of a terminal
-    /// with ICRNL set and INLCR and IGNCR clear: with its ISIG set, and with it clear. Both are 0 with EDIT.
+    /// Returns the length of the half-typed line that the server edits, as the client counts it by
+    /// the roles of a terminal with ICRNL set and INLCR and IGNCR clear: first if its ISIG is set,
+    /// then if it is clear. Both are 0 with EDIT.
     pub fn counts(&self) -> (u16, u16)
         ensures value { result ≡ (self.now.trapped, self.now.plain) }
         ensures stands { (h : History) → LeadsTo h self.now →
@@ -373,7 +422,7 @@ impl ClientEnd {
         (self.trapped, self.plain)
     }
 
-    /// The special characters in force.
+    /// Returns the special characters in force.
     pub fn chars(&self) -> Chars
         ensures value { result ≡ self.now.table }
         ensures stands { (h : History) → LeadsTo h self.now → result ≡ chars h }
@@ -381,7 +430,7 @@ impl ClientEnd {
         self.table.chars()
     }
 
-    /// Whether the server has set a forward mask (RFC 1184, section 2.3).
+    /// Returns whether the server has set a forward mask (RFC 1184, section 2.3).
     pub fn forwards(&self) -> bool
         ensures value { result ≡ is_some self.now.forward }
         ensures stands { (h : History) → LeadsTo h self.now → result ≡ is_some (forward h) }
@@ -389,7 +438,8 @@ impl ClientEnd {
         self.forward.is_some()
     }
 
-    /// Where an option stands; `No` for each that no end knows.
+    /// Returns the state of one side of an option (RFC 1143): `No` for each that is none of the
+    /// four.
     pub fn option(&self, side: Side, option: u8) -> QState
         ensures value { result ≡ state_of self.now.options side option }
         ensures stands { (h : History) → LeadsTo h self.now → result ≡ state_of (options h) side option }
@@ -397,7 +447,7 @@ impl ClientEnd {
         self.options.q_state(side, option)
     }
 
-    /// Whether a call of `feed` was refused because it ran out of memory.
+    /// Returns whether a call of `feed` was refused because it ran out of memory.
     pub fn failed(&self) -> bool
         ensures { result ≡ self.now.failed }
     {

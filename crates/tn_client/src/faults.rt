@@ -1,12 +1,12 @@
-//! Why a call of a client end was refused.
+//! The reasons why a call of a client end is refused.
 
 use thiserror::Error;
 use tn_discipline::CharFault;
 
-/// Why a call of a client end was refused.
+/// The reason why a call of a client end was refused.
 #[derive(Clone, Copy, Debug, PartialEq, Eq, Error)]
 pub enum ClientFault {
-    /// Out of memory. Where `feed` returns it, the end has failed.
+    /// There was no memory. If `feed` returns this, the end has failed.
     #[error("out of memory")]
     Memory,
     /// A call of `feed` was refused before.
@@ -15,7 +15,7 @@ pub enum ClientFault {
     /// LINEMODE is not on.
     #[error("LINEMODE is not on")]
     NotOn,
-    /// The client's own table can't have the special character.
+    /// The client's own table cannot have the special character.
     #[error("special character: {0}")]
     Char(CharFault),
 }

@@ -1,4 +1,4 @@
-//! What a client end does with an item that came.
+//! Takes the items that came at a client end.
 
 ghost use Rattle.std.specs.Prelude.{◌≡◌, ◌≢◌, ◌⊎◌, ◌≤◌, ◌++◌, ℕ, ◌==◌, ◌&&◌, Some, None, [], length};
 ghost use Rattle.std.specs.Prelude.{if◌then◌else◌, OnOk, OnErr};
@@ -23,7 +23,7 @@ use tn_nvt::{Item, Params};
 use tn_option::{Engine, LINEMODE, NAWS, Side};
 
 impl ClientEnd {
-    /// What an item does, from what the end knows now. After a refusal the end is not used again.
+    /// Takes an item. After a refusal the end is not used again.
     pub(crate) fn item(
         &mut self,
         item: Item,
@@ -46,7 +46,7 @@ impl ClientEnd {
         }
     }
 
-    // Sends what is held, where EDIT ends with this mode.
+    // Sends the bytes that are held, if EDIT ends with this mode.
     fn put_held(&self, mode: ClientMode, out: &mut Vec<u8>) -> Result<(), AllocError>
         ensures ok { OnOk result (out.new.items ≡ out.old.items ++ spells (says_mode self.now mode)) }
         ensures err { OnErr result (out.new.items ≡ out.old.items) }
@@ -58,7 +58,7 @@ impl ClientEnd {
         Ok(())
     }
 
-    // Takes a mode, after what is held was sent.
+    // Takes a mode, after the held bytes were sent.
     fn set_mode(&mut self, mode: ClientMode)
         ensures { self.new ≡ with_mode self.old mode }
     {
@@ -70,7 +70,8 @@ impl ClientEnd {
         self.mode = mode;
     }
 
-    // From here on the server edits the half line, of which it has all bytes.
+    // Hands the half-typed line over to the server, which has all bytes of it and edits it from
+    // then on.
     fn hand_over(&mut self)
         ensures { self.new ≡ end_handed_over self.old }
     {
@@ -80,7 +81,8 @@ impl ClientEnd {
         self.plain = length;
     }
 
-    // From here on the half line is edited here, and the server has all that was typed of it, by this ISIG.
+    // Takes the half-typed line over from the server, which has all bytes that were typed of it, by
+    // this ISIG. The client edits it from then on.
     fn take_over(&mut self, isig: bool)
         ensures { self.new ≡ end_taken_over self.old isig }
     {
@@ -91,7 +93,7 @@ impl ClientEnd {
         self.plain = 0;
     }
 
-    // An option word: it is answered, and what follows from it is said.
+    // Answers an option message, and sends all that follows from it.
     fn word(&mut self, verb: Verb, option: u8, out: &mut Vec<u8>) -> Result<(), AllocError>
         ensures ok { OnOk result (self.new ≡ end_after_item self.old (item.Neg verb option)) }
         ensures out { OnOk result
@@ -113,7 +115,7 @@ impl ClientEnd {
         Ok(())
     }
 
-    // The mode once the options are these: LINEMODE begins and ends without one.
+    // Returns the mode once the options are these: LINEMODE begins and ends without a mode.
     fn mode_with(&self, options: &Engine) -> ClientMode
         ensures { result ≡ (if changes self.now.options options.now then 0 else self.now.mode) }
     {
@@ -124,7 +126,7 @@ impl ClientEnd {
         mode
     }
 
-    // The forward mask once the options are these, in the same way.
+    // Returns the forward mask once the options are these: LINEMODE begins and ends without one.
     fn forward_with(&self, options: &Engine) -> Option<Mask>
         ensures { result ≡ (if changes self.now.options options.now then None else self.now.forward) }
     {
@@ -134,7 +136,7 @@ impl ClientEnd {
         self.forward
     }
 
-    // Tells the size where NAWS came on.
+    // Sends the size if NAWS came on.
     fn put_size_on(&self, is_on: bool, out: &mut Vec<u8>) -> Result<(), AllocError>
         ensures ok { let size : ℕ × ℕ = (self.now.width, self.now.height) in
             let says = new_size_items (tells_size self.now.options) is_on size in
@@ -149,7 +151,7 @@ impl ClientEnd {
         Ok(())
     }
 
-    /// What a subnegotiation does. After a refusal the end is not used again.
+    /// Takes a subnegotiation. After a refusal the end is not used again.
     pub(crate) fn subnegotiation(
         &mut self,
         option: u8,
@@ -184,14 +186,14 @@ impl ClientEnd {
         }
     }
 
-    // Payloads of this option are read: it is LINEMODE, and on.
+    // Returns whether payloads of this option are read: it is LINEMODE, and on.
     fn is_read(&self, option: u8) -> bool
         ensures { result ≡ ((option == option_code.linemode) && linemode self.now.options) }
     {
         option == LINEMODE && self.options.is_on(Side::Us, LINEMODE)
     }
 
-    // A MODE of the server.
+    // Takes a MODE of the server.
     fn mode_got(&mut self, mask: u8, out: &mut Vec<u8>) -> Result<(), AllocError>
         ensures ok { OnOk result (self.new ≡ end_after_payload self.old (Some (payload.Mode mask))) }
         ensures out { OnOk result
@@ -208,7 +210,8 @@ impl ClientEnd {
         Ok(())
     }
 
-    // A forward mask of the server, or none any more, and what answers it.
+    // Takes a forward mask of the server, or the message that there is none any more, and answers
+    // it.
     fn forward_got(
         &mut self,
         forward: Option<Mask>,
@@ -225,7 +228,7 @@ impl ClientEnd {
         Ok(())
     }
 
-    // A list of local characters: the answers in one list.
+    // Answers a list of local characters in one list.
     fn list(&mut self, triples: &Triples, out: &mut Vec<u8>) -> Result<(), AllocError>
         requires { length triples.now ≤ max_triples }
         ensures ok { OnOk result (self.new ≡ end_after_payload self.old (Some (payload.Slc triples.now))) }

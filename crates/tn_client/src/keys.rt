@@ -1,4 +1,4 @@
-//! What a client end does with a key.
+//! Takes the keys that are typed at a client end.
 
 ghost use Rattle.std.specs.Prelude.{◌≡◌, ◌⊎◌, ◌<◌, ◌≤◌, ◌++◌, ℕ, [], true, false, IsFalse, length, IfOk};
 ghost use Rattle.std.specs.Prelude.{OnOk, OnErr, if◌then◌else◌};
@@ -18,7 +18,7 @@ use std::alloc::AllocError;
 use tn_discipline::{Effect, Limit, Line, Role, Settings, echo_of_role, role_of};
 use tn_option::{ECHO, Side};
 
-// The plain count of a half line after one more key (MAX_CANON; XBD 11.1.6).
+// Returns the plain count of a half-typed line after one more key (MAX_CANON; XBD 11.1.6).
 fn count_after(limit: Limit, count: u16, role: Role) -> u16
     requires { count < limit }
     ensures value { result ≡ count_after limit count (roles_from role) }
@@ -34,7 +34,7 @@ fn count_after(limit: Limit, count: u16, role: Role) -> u16
     }
 }
 
-// How many bytes a key of this role shows of the line, where it is echoed.
+// Returns the number of bytes that a key of this role shows of the line, if it is echoed.
 fn shown_len(role: Role, line: &Line) -> usize
     ensures value { (m : ℕ) (c : Characters) →
         result ≡ length (echoed_edited (key_settings m c) role line.now) }
@@ -50,14 +50,14 @@ fn shown_len(role: Role, line: &Line) -> usize
 }
 
 impl ClientEnd {
-    // The settings that give a key its role.
+    // Returns the settings that give a key its role.
     fn settings(&self) -> Settings
         ensures { result ≡ key_settings self.now.mode self.now.table }
     {
         self.settings_under(self.mode.current().trapsig())
     }
 
-    // The same under this ISIG.
+    // Returns the settings that give a key its role under this ISIG.
     fn settings_under(&self, isig: bool) -> Settings
         ensures { result ≡ settings_by isig self.now.table }
     {
@@ -67,14 +67,14 @@ impl ClientEnd {
         settings
     }
 
-    // The server echoes.
+    // Returns whether the server echoes.
     fn is_echoed(&self) -> bool
         ensures { result ≡ is_echoed self.now.options }
     {
         self.options.is_on(Side::Them, ECHO)
     }
 
-    // How many bytes a key of this role shows here.
+    // Returns the number of bytes that a key of this role shows on the client's screen.
     fn echo_len(&self, role: Role) -> usize
         ensures value { let terminal = key_settings self.now.mode self.now.table in
             let text = edited_shown (is_echoed self.now.options) terminal role self.now.line in
@@ -87,8 +87,8 @@ impl ClientEnd {
         shown_len(role, &self.line)
     }
 
-    /// Types a key that is sent at once, as CR LF if it is a new line. After a refusal what was sent begins as
-    /// it did.
+    /// Types a key that is sent at once, as CR LF if it is a new line. After a refusal the bytes
+    /// that were sent begin as they did.
     pub(crate) fn pass(
         &mut self,
         key: u8,
@@ -116,7 +116,7 @@ impl ClientEnd {
         Ok(())
     }
 
-    // Shows a key that is sent at once, where the server does not echo.
+    // Shows a key that is sent at once, unless the server echoes.
     fn echo_passed(&self, key: u8, screen: &mut Vec<u8>) -> Result<(), AllocError>
         ensures ok { OnOk result
             (screen.new.items ≡ screen.old.items ++ passed_shown (is_echoed self.now.options) key) }
@@ -130,7 +130,8 @@ impl ClientEnd {
         echo_raw(key, screen)
     }
 
-    // The roles of a key where ISIG is set, and where it is clear. Only those of a signal's character differ.
+    // Returns the roles of a key if ISIG is set, and if it is clear. Only those of a signal's
+    // character differ.
     fn roles(&self, key: u8) -> (Role, Role)
         ensures trapping { result.0 ≡ role_of_key (settings_by true self.now.table) key }
         ensures plain { result.1 ≡ role_of_key (settings_by false self.now.table) key }
@@ -142,7 +143,7 @@ impl ClientEnd {
         (trapping, trapping)
     }
 
-    // The one of them that the mode names.
+    // Returns the one of the two roles that the mode names.
     fn role_among(&self, trapping: Role, plain: Role) -> Role
         ensures { result ≡ (if traps self.now.mode then trapping else plain) }
     {
@@ -152,7 +153,7 @@ impl ClientEnd {
         plain
     }
 
-    // Counts a key of these roles in the half line that the server edits.
+    // Counts a key of these roles in the half-typed line that the server edits.
     fn count(&mut self, trapping: Role, plain: Role)
         ensures { let limit = self.old.line.limit in
             self.new ≡ record self.old {
@@ -165,7 +166,8 @@ impl ClientEnd {
         self.plain = count_after(limit, self.plain, plain);
     }
 
-    /// Types a key into the line that is edited here. After a refusal what was sent begins as it did.
+    /// Types a key into the line that the client edits. After a refusal the bytes that were sent
+    /// begin as they did.
     pub(crate) fn edit(
         &mut self,
         key: u8,
@@ -202,7 +204,7 @@ impl ClientEnd {
         Ok(())
     }
 
-    // Types a key of this role into the line and sends what it sends.
+    // Types a key of this role into the line, and sends the bytes that it sends.
     fn type_edited(&mut self, role: Role, out: &mut Vec<u8>) -> Result<Effect, AllocError>
         ensures ok { OnOk result (self.new ≡
             record self.old { line = line_typed true self.old.forward self.old.line role }) }
@@ -228,8 +230,8 @@ impl ClientEnd {
         }
     }
 
-    // Whether a key of this role, which had this effect, sends all that is held: its byte was kept, and
-    // is in the forward mask.
+    // Returns whether a key of this role, which had this effect, sends all held bytes: its byte was
+    // kept, and is in the forward mask.
     fn is_sent_ahead(&self, role: Role, effect: &Effect) -> bool
         ensures { result ≡ sends_where self.now.forward role effect.now }
     {
@@ -239,7 +241,8 @@ impl ClientEnd {
         }
     }
 
-    // Sends all that is held. After a refusal the line is as it was, and the bytes begin as they did.
+    // Sends all held bytes. After a refusal the line is as it was, and the bytes that were sent
+    // begin as they did.
     fn send_held(&mut self, out: &mut Vec<u8>) -> Result<(), AllocError>
         ensures ok { OnOk result (self.new ≡ record self.old { line = line_released self.old.line }) }
         ensures out { OnOk result (out.new.items ≡ out.old.items ++ spells (byte_items self.old.line.held)) }

@@ -1,4 +1,4 @@
-//! Laws of the definitions alone.
+//! Laws of the client end, only over the definitions.
 
 ghost use Rattle.std.specs.Prelude.{◌≡◌, ◌↔◌, ◌<◌, ◌≤◌, ◌+◌, ◌*◌, ◌++◌, ℕ, Bool, IsTrue, List, All, IsFalse};
 ghost use Rattle.std.specs.Prelude.{None, [], length, take};
@@ -26,20 +26,22 @@ pub fn items_come()
     ensures keys { (h : History) (more : List Item) → keys (gets h more) ≡ keys h }
 {}
 
-/// What was sent ahead is a prefix of the half line, and the client holds the rest.
+/// The bytes that were sent ahead are a prefix of the half-typed line, and the client holds the
+/// rest.
 pub fn ahead_is_a_front()
     ensures within { (h : History) → ahead h ≤ length (half_line h) }
     ensures parts { (h : History) → half_line h ≡ take (ahead h) (half_line h) ++ held_bytes h }
 {}
 
-/// The half line has at most as many bytes as a line counts before its closing byte, whichever end edits it.
+/// The half-typed line has at most as many bytes as a line counts before its closing byte,
+/// whichever end edits it.
 pub fn half_lines_fit()
     ensures here { (h : History) → length (half_line h) ≤ max_counted (line_limit h) }
     ensures there { (isig : Bool) (h : History) → count_under isig h ≤ max_counted (line_limit h) }
 {}
 
-/// Without EDIT no half line is here, and with it none is counted; without LINEMODE there are no mode and
-/// no forward mask.
+/// Without EDIT the client holds no half-typed line, and with it none is counted; without LINEMODE
+/// there are no mode and no forward mask.
 pub fn nothing_without_edit()
     ensures line { (h : History) → IsFalse (edits (mode h)) → half_line h ≡ [] }
     ensures ahead { (h : History) → IsFalse (edits (mode h)) → ahead h ≡ 0 }
@@ -48,15 +50,16 @@ pub fn nothing_without_edit()
     ensures forward { (h : History) → IsFalse (linemode (options h)) → forward h ≡ None }
 {}
 
-/// A command that the user sends leaves the half line as it is, whichever end edits it.
+/// A command that the user sends leaves the half-typed line as it is, whichever end edits it.
 pub fn commands_leave_the_line()
     ensures here { (h : History) (command : UserCommand) → line (next h (sent command)) ≡ line h }
     ensures there { (isig : Bool) (h : History) (command : UserCommand) →
         count_under isig (next h (sent command)) ≡ count_under isig h }
 {}
 
-/// An end is a function of its history: if a history leads to an end, the history with one more event leads to
-/// the end after that event, and the end says and shows then what that history says and shows more.
+/// An end is a function of its history. If a history leads to an end, the history with one more
+/// event leads to the end after that event, and the end sends and shows then what the longer
+/// history sends and shows more.
 pub fn steps_stand()
     ensures leads { (h : History) (end : End) (e : Event) → LeadsTo h end →
         LeadsTo (next h e) (end_after end e) }
@@ -66,8 +69,9 @@ pub fn steps_stand()
         shows h e ≡ displays end e }
 {}
 
-/// If a history leads to an end, the history with the items of a piece leads to the end after the piece. Items,
-/// one after another, make an end say and show what the history with them says and shows more.
+/// If a history leads to an end, the history with the items of a piece leads to the end after the
+/// piece. At items, one after another, an end sends and shows what the history with them sends and
+/// shows more.
 pub fn pieces_stand()
     ensures leads { (h : History) (old new : End) (piece before after seen now : List ℕ) →
         (f : Feeds old piece before after seen now new) → LeadsTo h old → LeadsTo (gets h f.items) new }
@@ -82,13 +86,13 @@ pub fn one_history()
     ensures { (c : Course) (h k : History) → ReadsAs c h → ReadsAs c k → h ≡ k }
 {}
 
-/// A new end is where its course begins.
+/// A new end is at the beginning of its course.
 pub fn course_begins()
     ensures { (width height limit : ℕ) (end : End) → LeadsTo (begun width height limit) end →
         nvt.LeadsTo [] [] end.decoder → CourseLeadsTo (started width height limit) end }
 {}
 
-/// One piece more: what was appended is what the longer course says and shows more.
+/// One piece more: the appended bytes are those that the longer course sends and shows more.
 pub fn course_fed()
     ensures at { (c : Course) (old new : End) (piece before after seen now : List ℕ) → CourseLeadsTo c old →
         Feeds old piece before after seen now new → CourseLeadsTo (fed c piece) new }
@@ -102,8 +106,7 @@ pub fn course_fed()
         text_shown k ≡ text_shown h ++ items_shown f.items }
 {}
 
-/// A piece that is refused: what was appended and what was shown begin what all of its items make the client
-/// say and show.
+/// After a refused piece, the appended bytes and the text begin those of all of its items.
 pub fn course_stopped()
     ensures { (c : Course) (old : End) (piece before after seen now : List ℕ) (h whole : History) →
         CourseLeadsTo c old → StopsWithin old piece before after seen now → ReadsAs c h →
@@ -116,7 +119,7 @@ pub fn course_called()
         CourseLeadsTo (called c e) (end_after old e) }
 {}
 
-/// However a stretch of the stream is cut, it leads to the same.
+/// A stretch of the stream leads to one end, however it is cut.
 pub fn pieces_join()
     ensures { (c : Course) (p q : List ℕ) (h : History) → All (λ b. b < 256) (stream c ++ p) →
         ReadsAs (fed (fed c p) q) h ↔ ReadsAs (fed c (p ++ q)) h }
@@ -130,8 +133,9 @@ pub fn nothing_is_accepted()
         ¬ StopsWithin old [] before after seen now }
 {}
 
-/// What an item is answered by at most, beside what is held of a line and is sent where EDIT ends: an option
-/// word by 16 bytes, a subnegotiation by as many as it has itself, and any other by none.
+/// The reply to an item is bounded, besides the held bytes of a line that are sent when EDIT ends:
+/// to an option message 16 bytes, to a subnegotiation as many as it has itself, and to any other
+/// item none.
 pub fn replies_bounded()
     ensures { (h : History) (item : Item) →
         length (spells (replies h (got item))) ≤ length (spells (held_sent h item)) + max_answered item }
@@ -139,7 +143,7 @@ pub fn replies_bounded()
     answers_name_their_function();
 }
 
-/// No less would do: each of both numbers is met, by an item at which nothing is held.
+/// The bounds are met: for both numbers an item reaches it, while nothing is held.
 pub fn bounds_are_met()
     ensures word { (h : History) × (verb : Verb) × (option : ℕ) ×
         (length (spells (replies h (got (Neg verb option)))) ≡ 16) × (held_sent h (Neg verb option) ≡ []) }

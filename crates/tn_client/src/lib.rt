@@ -1,4 +1,7 @@
-//! The client end of a Telnet connection, which edits lines where its server asks for that.
+//! The client end of a Telnet connection, which edits lines if its server asks for that.
+//!
+//! Begin with `ClientEnd`, which one connection owns, and `UserCommand`, a command that its user
+//! may send.
 //!
 //! ```
 //! let mut end = ClientEnd::start(alloc, 80, 24, Limit::standard())?;

@@ -1,4 +1,4 @@
-//! What a client end shows, as bytes of its screen.
+//! Writes the bytes of a client end's screen.
 
 ghost use Rattle.std.specs.Prelude.{◌≡◌, ◌+◌, ◌≤◌, ◌++◌, ◌∷◌, [], length, vec_len, vec_capacity, OnOk, OnErr};
 ghost use Rattle.std.specs.List.{flat_map};
@@ -40,7 +40,7 @@ pub(crate) fn echo_raw(key: u8, screen: &mut Vec<u8>) -> Result<(), AllocError>
     show_byte(key, screen)
 }
 
-/// Shows what there is among these symbols, where there is room.
+/// Shows those of the symbols that are there, for which there is room.
 pub(crate) fn show_all(symbols: &[Option<Symbol>], screen: &mut Vec<u8>)
     requires { vec_len screen.old + length (flat_map on_screen symbols.now) ≤ vec_capacity screen.old }
     ensures { screen.new.items ≡ screen.old.items ++ flat_map on_screen symbols.now }

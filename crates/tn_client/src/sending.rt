@@ -1,4 +1,4 @@
-//! What a client end sends.
+//! Appends the bytes that a client end sends.
 
 ghost use Rattle.std.specs.Prelude.{◌≡◌, ◌≢◌, ◌<◌, ◌≤◌, ◌++◌, [], Some, length, flat_map, vec_capacity, OnOk};
 ghost use Rattle.std.specs.Prelude.{OnErr};
@@ -21,7 +21,7 @@ macro_rules! commands {
     };
 }
 
-// The function whose character has this role.
+// Returns the function whose character has this role.
 fn func_of(role: Role) -> Option<Func>
     ensures { result ≡ func_of role }
 {
@@ -36,7 +36,7 @@ fn func_of(role: Role) -> Option<Func>
     }
 }
 
-// The command that stands for a key of this role.
+// Returns the command that stands for a key of this role.
 fn command_of(role: Role) -> Option<Command>
     ensures { result ≡ command_of role }
 {
@@ -120,8 +120,8 @@ pub(crate) fn put_bytes(bytes: &[u8], out: &mut Vec<u8>) -> Result<(), AllocErro
     }
 }
 
-/// Appends what a key of this role sends of the line, before it changes the line. After a refusal the
-/// bytes begin as they did.
+/// Appends the bytes of the line that a key of this role sends, before it changes the line. After a
+/// refusal the bytes that were sent begin as they did.
 pub(crate) fn put_edited(role: Role, line: &Line, out: &mut Vec<u8>) -> Result<(), AllocError>
     ensures ok { OnOk result (out.new.items ≡ out.old.items ++ spells (edited_key_items role line.now)) }
     ensures err { OnErr result (Begins out.old.items out.new.items) }

@@ -18,7 +18,7 @@ impl<'a> Sink for Lent<'a> {
 
     ghost gives_up = { RefusesItems };
 
-    // Plain bytes are shown as they are.
+    // Shows plain bytes as they are.
     fn run(&mut self, bytes: &[u8]) -> Result<(), Refused> {
         match self.screen.extend_from_slice(bytes) {
             Ok(()) => Ok(()),

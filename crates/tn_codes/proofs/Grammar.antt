@@ -1,4 +1,4 @@
--- Parameters say one thing, or have one fault.
+-- Parameters encode one payload, or have one fault.
 use Rattle.std.proofs.Common.{◌≡◌, ℕ, ◌*◌, ◌%◌, ◌<◌, ◌≤◌, inl, inr, List, [], ◌∷◌, length, flat_map, refl, ap, subst, arith}
 use Rattle.tn_codes.specs.declared.{codes.Verb.{Verb, TheVariants.{Will, Wont, DoIt, DontIt}}, payloads.Payload.Payload, triples.Triple.Triple}
 use Rattle.tn_codes.specs.{declared.payloads.Payload.TheVariants.{Naws, Mode, ForwardOn, ForwardOff, ForwardYes, ForwardNo, Slc}, Codes.verb_code}
@@ -29,7 +29,7 @@ takes_memory octets h some =
     let all = grouped octets h in
     (all.0, (λ none. omega (arith, ap length all.1, length-octets all.0, ap length none)), (refl, ap (λ x. 3 ∷ x) all.1))
 
--- what is said has no unknown option
+-- parameters that encode a payload have no unknown option
 pub says_option : (option : ℕ) (params : List ℕ) (payload : Payload) → Says option params payload → IsUnknownOption option → ⊥
 says_option option params (Naws width height) s u = u.0 s.0
 says_option option params (Mode mask) s u = u.1 s.0
@@ -46,7 +46,7 @@ slc_known (x ∷ xs) k = k.1 refl
 forward_known : (v : Verb) (octets : List ℕ) → IsUnknownKind (verb_code v ∷ 2 ∷ octets) → ⊥
 forward_known v octets k = elim k.2 [ inl no_verb ↦ no_verb v refl | inr other ↦ other refl ]
 
--- what is said is of a known kind
+-- parameters that encode a payload are of a known kind
 pub says_kind : (option : ℕ) (params : List ℕ) (payload : Payload) → Says option params payload → IsUnknownSub option params → ⊥
 says_kind option params (Naws width height) s u = omega (arith, s.0, u.0)
 says_kind option params (Mode mask) s u = let k : IsUnknownKind (1 ∷ mask ∷ []) = subst IsUnknownKind s.1 u.1 in k.0 refl
@@ -94,7 +94,7 @@ forward_length v octets h (inl other) = omega (arith, verb_high v, other.0)
 forward_length v octets h (inr (inl other)) = omega (arith, verb_high v, other.0)
 forward_length v octets h (inr (inr forward)) = omega (arith, limit_at v forward.1.0 forward.1.1, forward.1.2)
 
--- what a LINEMODE subnegotiation says has a good length
+-- a LINEMODE subnegotiation that encodes a payload has a good length
 linemode_length : (option : ℕ) (params good : List ℕ) → option ≡ 34 → params ≡ good → (HasBadLinemodeLength good → ⊥) → HasBadLength option params → ⊥
 linemode_length option params good is e fits (inl naws) = omega (arith, naws.0)
 linemode_length option params good is e fits (inr bad) = fits (subst HasBadLinemodeLength e bad.1)

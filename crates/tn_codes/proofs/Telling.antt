@@ -1,4 +1,4 @@
--- The relation and the function say the same.
+-- The relation and the function agree.
 use Rattle.std.proofs.Common.{◌≡◌, ◌≢◌, ℕ, ◌≤◌, ◌⊎◌, inl, inr, Bool, true, false, List, [], ◌∷◌, length, take, drop, flat_map, Option, Some, None, Result, Ok}
 use Rattle.std.proofs.{Common.{Err, IsOk, MatchResult, refl, sym, ◌∙◌, ap, subst, arith}, lemmas.Bool.{ne_eqb, Decides.{eqb_tells, nat_tests}}}
 use Rattle.std.specs.{Prelude.{IsErrOf, ◌↔◌, nat_le, if◌then◌else◌}, Option.option_map, Int.{w16, from_be_bytes}}
@@ -35,7 +35,7 @@ told option params ForwardYes s = rw (s.0, s.1) refl
 told option params ForwardNo s = rw (s.0, s.1) refl
 told option params (Slc triples) s = rw (s.0, s.1) (ap (option_map Slc) (triples_told triples))
 
--- and back
+-- from the function to the relation
 
 size_says : (option : ℕ) (params : List ℕ) (payload : Payload) → option ≡ 31 → size_of params ≡ Some payload → Says option params payload
 size_says option [] payload is e = cc
@@ -162,11 +162,11 @@ none_unless : (told : Option Payload) → ((payload : Payload) → told ≡ Some
 none_unless None h = refl
 none_unless (Some payload) h = absurd (h payload refl)
 
--- nothing is told where nothing is said
+-- the function gives none if the parameters encode none
 pub untold : (option : ℕ) (params : List ℕ) → ((payload : Payload) → Says option params payload → ⊥) → payload_of option params ≡ None
 untold option params h = none_unless (payload_of option params) (λ payload e. h payload (says option params payload e))
 
--- what an answer tells, clause by clause
+-- the facts that a result shows, clause by clause
 
 pub said_by : (option : ℕ) (params : List ℕ) (r : Result Payload PayloadFault) → Tells option params r → (payload : Payload) → Says option params payload
     → IsOk r ⊎ IsErrOf r Memory

@@ -1,4 +1,5 @@
--- A mask without the zeros at its end is the mask again, and what is written says its payload.
+-- A mask without the zeros at its end is the mask again, and the parameters that are written encode their
+-- payload.
 use Rattle.std.proofs.Common.{◌≡◌, ◌≢◌, ℕ, suc, ◌+◌, ◌<◌, take, get_or, ◌-◌, inl, inr, List, [], ◌∷◌, ◌++◌, length, replicate, refl, sym, ◌∙◌, ap, arith}
 use Rattle.std.proofs.{Common.length-append, lemmas.{List.{length-replicate, take_more}, Nat.from_be_bytes-to_be_bytes_2, Bool.{ne_eqb, Decides.eqb_tells}}}
 use Rattle.tn_codes.specs.declared.payloads.Payload.{Payload, TheVariants.{Naws, Mode, ForwardOn, ForwardOff, ForwardYes, ForwardNo, Slc}}

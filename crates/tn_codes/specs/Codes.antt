@@ -6,7 +6,7 @@ use Rattle.tn_codes.specs.declared.codes.Verb.TheVariants as verb
 use Rattle.tn_codes.specs.declared.codes.Func.TheVariants as func
 use Rattle.tn_codes.specs.declared.codes.Level.TheVariants as level
 
--- RFC 854: the words of option negotiation
+-- RFC 854: the verbs of option negotiation
 abbrev pub verb_code : Verb → ℕ
 verb_code verb.Will = 251
 verb_code verb.Wont = 252

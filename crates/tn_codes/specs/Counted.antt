@@ -4,7 +4,7 @@ use Rattle.tn_codes.specs.declared.payloads.Payload.{Payload, TheVariants.{Naws,
 use Rattle.tn_codes.specs.declared.payloads.Payload.TheVariants.{ForwardYes, ForwardNo, Slc}
 use Rattle.tn_codes.specs.declared.writing.Few.{Few, TheVariants.{Two, Four}}
 
--- the same parameters as a list
+-- these parameters as a list
 abbrev pub listed : Few → List ℕ
 listed (Two parameters) = parameters
 listed (Four parameters) = parameters

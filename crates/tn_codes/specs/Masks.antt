@@ -7,7 +7,7 @@ use Rattle.tn_codes.specs.declared.masks.Mask.{Mask}
 abbrev pub HasCharacter : Mask → ℕ → Type 0
 HasCharacter mask c = IsBitSet (slice_index mask.0 (c / 8)) (7 - c % 8)
 
--- the same as a test
+-- the test whether a mask has a character
 abbrev pub has_character : Mask → ℕ → Bool
 has_character mask c = not (bit_and (slice_index mask.0 (c / 8)) (2 ^ (7 - c % 8)) == 0)
 

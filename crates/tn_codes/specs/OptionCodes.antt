@@ -1,4 +1,4 @@
--- The codes of the four options that are spoken of here, as the section "Command Name and Code" of each
+-- The codes of ECHO, SUPPRESS-GO-AHEAD, NAWS and LINEMODE, as the section "Command Name and Code" of each
 -- standard gives them.
 use Rattle.std.specs.Prelude.{ℕ}
 

@@ -1,4 +1,5 @@
--- What the parameters of NAWS (RFC 1073) and of LINEMODE (RFC 1184, section 2) say, and when they say none.
+-- The payloads that the parameters of NAWS (RFC 1073) and of LINEMODE (RFC 1184, section 2) encode, and when
+-- they encode none.
 use Rattle.std.specs.Prelude.{◌≡◌, ◌≢◌, ℕ, ◌<◌, ◌≤◌, ◌%◌, ◌^◌, List, [], ◌∷◌, ◌++◌, ◌⊎◌, length, take, drop}
 use Rattle.std.specs.{Prelude.{flat_map, Result, Ok, Err}, Int.{w16, to_be_bytes, from_be_bytes}}
 use Rattle.tn_codes.specs.{declared.codes.Verb.Verb, Codes.verb_code, OptionCodes.{naws, linemode}}
@@ -12,9 +13,11 @@ use Rattle.tn_codes.specs.declared.payloads.PayloadFault.TheVariants as fault
 abbrev pub mode : ℕ
 mode = 1
 
+-- the code of FORWARDMASK
 abbrev pub forwardmask : ℕ
 forwardmask = 2
 
+-- the code of SLC
 abbrev pub slc : ℕ
 slc = 3
 
@@ -22,7 +25,7 @@ slc = 3
 abbrev pub octets_of : Triple → List ℕ
 octets_of triple = triple.func ∷ triple.flags ∷ triple.value ∷ []
 
--- the parameters of this option say this; octets that a mask lacks are zero
+-- the parameters of this option encode this payload; octets that a mask lacks are zero
 abbrev pub Says : ℕ → List ℕ → Payload → Type 0
 Says option params (Naws width height) =
     (option ≡ naws) × (length params ≡ 4) × (width ≡ from_be_bytes w16 (take 2 params))
@@ -37,6 +40,7 @@ Says option params ForwardYes = (option ≡ linemode) × (params ≡ verb_code W
 Says option params ForwardNo = (option ≡ linemode) × (params ≡ verb_code Wont ∷ forwardmask ∷ [])
 Says option params (Slc triples) = (option ≡ linemode) × (params ≡ slc ∷ flat_map octets_of triples)
 
+-- the option is neither NAWS nor LINEMODE
 abbrev pub IsUnknownOption : ℕ → Type 0
 IsUnknownOption option = (option ≢ naws) × (option ≢ linemode)
 
@@ -47,28 +51,31 @@ IsUnknownKind (first ∷ []) = (first ≢ mode) × (first ≢ slc) × ((verb : V
 IsUnknownKind (first ∷ second ∷ rest) =
     (first ≢ mode) × (first ≢ slc) × (((verb : Verb) → verb_code verb ≢ first) ⊎ (second ≢ forwardmask))
 
+-- a LINEMODE subnegotiation is of no known kind
 abbrev pub IsUnknownSub : ℕ → List ℕ → Type 0
 IsUnknownSub option params = (option ≡ linemode) × IsUnknownKind params
 
--- how many octets may follow a verb and FORWARDMASK
+-- the most octets that may follow a verb and FORWARDMASK
 abbrev pub mask_limit : Verb → ℕ
 mask_limit Will = 0
 mask_limit Wont = 0
 mask_limit DoIt = 32
 mask_limit DontIt = 0
 
--- a verb alone, or with more than may follow FORWARDMASK
+-- only a verb, or more octets than may follow FORWARDMASK
 abbrev pub HasBadForwardLength : ℕ → List ℕ → Type 0
 HasBadForwardLength first [] = (verb : Verb) × (verb_code verb ≡ first)
 HasBadForwardLength first (second ∷ octets) =
     (second ≡ forwardmask) × ((verb : Verb) × (verb_code verb ≡ first) × (mask_limit verb < length octets))
 
+-- a LINEMODE subnegotiation has another length than its kind
 abbrev pub HasBadLinemodeLength : List ℕ → Type 0
 HasBadLinemodeLength [] = Unit {0}
 HasBadLinemodeLength (first ∷ rest) =
     ((first ≡ mode) × (length rest ≢ 1))
     ⊎ (((first ≡ slc) × (length rest % 3 ≢ 0)) ⊎ HasBadForwardLength first rest)
 
+-- the parameters have another length than the option, or the kind, has
 abbrev pub HasBadLength : ℕ → List ℕ → Type 0
 HasBadLength option params =
     ((option ≡ naws) × (length params ≢ 4)) ⊎ ((option ≡ linemode) × HasBadLinemodeLength params)
@@ -93,7 +100,7 @@ parameters_of ForwardYes = verb_code Will ∷ forwardmask ∷ []
 parameters_of ForwardNo = verb_code Wont ∷ forwardmask ∷ []
 parameters_of (Slc triples) = slc ∷ flat_map octets_of triples
 
--- what its type holds: sides of 16 bits, a mask of 32 octets
+-- the payload is one that its type holds: sides of 16 bits, a mask of 32 octets
 abbrev pub Fits : Payload → Type 0
 Fits (Naws width height) = (width < 2 ^ 16) × (height < 2 ^ 16)
 Fits (Mode mask) = Unit {0}
@@ -121,7 +128,7 @@ IsShort (Slc triples) = length triples ≤ max_triples
 abbrev pub TakesMemory : ℕ → List ℕ → Type 0
 TakesMemory option params = (triples : List Triple) × (triples ≢ []) × Says option params (Slc triples)
 
--- what each answer of a reader tells of the parameters
+-- the facts about the parameters that each result of a reader shows
 abbrev pub Tells : ℕ → List ℕ → Result Payload PayloadFault → Type 0
 Tells option params (Ok payload) = Says option params payload
 Tells option params (Err fault.UnknownOption) = IsUnknownOption option

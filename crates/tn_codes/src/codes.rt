@@ -54,7 +54,7 @@ macro_rules! of_code {
     };
 }
 
-/// A word of the negotiation of options (RFC 854, "Option negotiation").
+/// A verb of the negotiation of options: WILL, WONT, DO or DONT (RFC 854, "Option negotiation").
 #[derive(Clone, Copy, Debug, PartialEq, Eq)]
 pub enum Verb {
     Will,
@@ -64,14 +64,14 @@ pub enum Verb {
 }
 
 impl Verb {
-    /// The byte that follows IAC.
+    /// Returns the byte that follows IAC.
     pub fn code(self) -> u8
         ensures { result ≡ verb_code self }
     {
         verbs!(to_code, self)
     }
 
-    /// The word of a byte that follows IAC, where that byte is one.
+    /// Returns the verb of a byte that follows IAC, or `None` if that byte is no verb.
     pub fn from_code(code: u8) -> Option<Verb>
         ensures { (verb : Verb) → (result ≡ Some verb) ↔ (verb_code verb ≡ code) }
     {
@@ -99,14 +99,14 @@ pub enum Command {
 }
 
 impl Command {
-    /// The byte that follows IAC.
+    /// Returns the byte that follows IAC.
     pub fn code(self) -> u8
         ensures { result ≡ command_code self }
     {
         commands!(to_code, self)
     }
 
-    /// The command of a byte that follows IAC, where that byte is one.
+    /// Returns the command of a byte that follows IAC, or `None` if that byte is none.
     pub fn from_code(code: u8) -> Option<Command>
         ensures { (command : Command) → (result ≡ Some command) ↔ (command_code command ≡ code) }
     {
@@ -138,14 +138,14 @@ pub enum Func {
 }
 
 impl Func {
-    /// The first octet of a triple.
+    /// Returns the first octet of a triple.
     pub fn code(self) -> u8
         ensures { result ≡ func_code self }
     {
         funcs!(to_code, self)
     }
 
-    /// The function of a triple's first octet, where it is one of the eighteen.
+    /// Returns the function of a triple's first octet, or `None` if it is none of the eighteen.
     pub fn from_code(code: u8) -> Option<Func>
         ensures { (func : Func) → (result ≡ Some func) ↔ (func_code func ≡ code) }
     {
@@ -153,8 +153,8 @@ impl Func {
     }
 }
 
-/// How far a function of the set of local characters is supported (RFC 1184, section 2.4:
-/// SLC_LEVELBITS).
+/// The level at which a function of the set of local characters is supported (RFC 1184, section
+/// 2.4: SLC_LEVELBITS).
 #[derive(Clone, Copy, PartialEq, Eq)]
 pub enum Level {
     NoSupport,
@@ -164,14 +164,14 @@ pub enum Level {
 }
 
 impl Level {
-    /// The two low bits of a triple's modifier.
+    /// Returns the two low bits of a triple's modifier.
     pub fn code(self) -> u8
         ensures { result ≡ level_code self }
     {
         levels!(to_code, self)
     }
 
-    /// The level of two bits; none of a larger number.
+    /// Returns the level of a number of 0 to 3, or `None` if the number is larger.
     pub fn from_code(code: u8) -> Option<Level>
         ensures { (level : Level) → (result ≡ Some level) ↔ (level_code level ≡ code) }
     {

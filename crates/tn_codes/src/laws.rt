@@ -1,4 +1,4 @@
-//! Laws of codes and payloads, over the definitions alone.
+//! Laws of codes and payloads, only over the definitions.
 
 ghost use Rattle.std.specs.Prelude.{◌≡◌, ◌↔◌, ℕ, List, Some};
 ghost use Rattle.tn_codes.specs.Codes.{verb_code, command_code, func_code, level_code};
@@ -34,7 +34,7 @@ pub fn numbers()
     ensures ack { constant.ACK ≡ 128 }
 {}
 
-/// The words of option negotiation (RFC 854).
+/// The verbs of option negotiation have the codes of RFC 854.
 pub fn verbs()
     ensures will { verb_code verb.Will ≡ 251 }
     ensures wont { verb_code verb.Wont ≡ 252 }
@@ -42,7 +42,7 @@ pub fn verbs()
     ensures dont_it { verb_code verb.DontIt ≡ 254 }
 {}
 
-/// The commands of one byte (RFC 854, RFC 885, RFC 1184).
+/// The commands of one byte have the codes of RFC 854, RFC 885 and RFC 1184.
 pub fn commands()
     ensures eof { command_code command.Eof ≡ 236 }
     ensures susp { command_code command.Susp ≡ 237 }
@@ -59,7 +59,7 @@ pub fn commands()
     ensures ga { command_code command.Ga ≡ 249 }
 {}
 
-/// The functions of the set of local characters (RFC 1184, section 2.4).
+/// The functions of the set of local characters have the codes of RFC 1184, section 2.4.
 pub fn funcs()
     ensures synch { func_code func.Synch ≡ 1 }
     ensures brk { func_code func.Brk ≡ 2 }
@@ -81,7 +81,7 @@ pub fn funcs()
     ensures forw2 { func_code func.Forw2 ≡ 18 }
 {}
 
-/// The levels of support (RFC 1184, section 2.4).
+/// The levels of support have the codes of RFC 1184, section 2.4.
 pub fn levels()
     ensures no_support { level_code level.NoSupport ≡ 0 }
     ensures cant_change { level_code level.CantChange ≡ 1 }
@@ -97,7 +97,7 @@ pub fn codes_are_distinct()
     ensures levels { (a b : Level) → level_code a ≡ level_code b → a ≡ b }
 {}
 
-/// Parameters say one payload at most, which is that of the function.
+/// Parameters encode at most one payload, and it is the one that the function returns.
 pub fn one_payload()
     ensures told { (option : ℕ) (params : List ℕ) (payload : Payload) →
         Says option params payload ↔ (payload_of option params ≡ Some payload) }
@@ -105,7 +105,7 @@ pub fn one_payload()
         Says option params payload → Says option params other → payload ≡ other }
 {}
 
-/// Parameters that say something have no fault, and others have one alone.
+/// Parameters that encode a payload have no fault, and all others have exactly one.
 pub fn faults_are_apart()
     ensures option { (option : ℕ) (params : List ℕ) (payload : Payload) →
         Says option params payload → ¬ IsUnknownOption option }
@@ -121,7 +121,7 @@ pub fn faults_are_apart()
         IsUnknownSub option params → ¬ HasBadLength option params }
 {}
 
-/// What is written says the payload that it was written for.
+/// The parameters that are written for a payload encode that payload.
 pub fn written_is_said()
     ensures { (payload : Payload) → Fits payload →
         Says (option_of payload) (parameters_of payload) payload }

@@ -1,7 +1,9 @@
 //! The codes of a Telnet stream and of its subnegotiations (RFC 854, 855, 1073, 1184).
 //!
-//! A payload is read from the parameters of a subnegotiation, which a decoder has undoubled, and
-//! written as such:
+//! Begin with `Payload`, a subnegotiation as a value, and `Verb`, one of WILL, WONT, DO and DONT.
+//!
+//! `read_payload` reads a payload from the parameters of a subnegotiation, in which a decoder has
+//! undoubled IAC, and `write_payload` writes them so:
 //!
 //! ```
 //! match read_payload(alloc, 31, &[0, 80, 0, 24]) {

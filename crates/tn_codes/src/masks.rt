@@ -8,7 +8,7 @@ ghost use Rattle.tn_codes.specs.Masks.{HasCharacter, has_character, filled_octet
 pub struct Mask(pub [u8; 32]);
 
 impl Mask {
-    /// The mask of these octets, at most 32; those that it lacks are zero.
+    /// Makes the mask of these octets, at most 32; the octets that they lack are zero.
     pub fn from_octets(octets: &[u8]) -> Mask
         requires { length octets.now ≤ 32 }
         ensures { result.0 ≡ filled_octets octets.now }
@@ -18,8 +18,8 @@ impl Mask {
         Mask(mask)
     }
 
-    /// Whether the mask has the character, of 0 to 255: bit 0x80 is the first of each octet's eight
-    /// (RFC 1184, section 2.3).
+    /// Returns whether the mask has the character, of 0 to 255. Bit 0x80 is the first of each
+    /// octet's eight (RFC 1184, section 2.3).
     pub fn has(self, character: u8) -> bool
         ensures has { IsTrue result ↔ HasCharacter self character }
         ensures test { result ≡ has_character self character }

@@ -1,4 +1,4 @@
-//! What the parameters of a subnegotiation say (RFC 1073 for NAWS, RFC 1184 for LINEMODE).
+//! The payloads of subnegotiations (RFC 1073 for NAWS, RFC 1184 for LINEMODE).
 
 use crate::masks::Mask;
 use crate::triples::Triples;
@@ -7,7 +7,7 @@ use thiserror::Error;
 /// The parameters of one subnegotiation of NAWS or LINEMODE.
 #[derive(Drop, PartialEq, Eq)]
 pub enum Payload {
-    /// The size of the client's screen in characters; 0 leaves that side open (RFC 1073).
+    /// The size of the client's screen in characters; 0 leaves that dimension open (RFC 1073).
     Naws { width: u16, height: u16 },
     /// MODE with its mask: EDIT 1, TRAPSIG 2, MODE_ACK 4, SOFT_TAB 8 and LIT_ECHO 16; any octet is
     /// read (RFC 1184, section 2.2).
@@ -24,7 +24,7 @@ pub enum Payload {
     Slc(Triples),
 }
 
-/// Why parameters were not read.
+/// The reason why parameters were not read.
 #[derive(Clone, Copy, Debug, Error, PartialEq, Eq)]
 pub enum PayloadFault {
     #[error("no payload is known for this option")]

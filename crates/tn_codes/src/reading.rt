@@ -13,10 +13,15 @@ use crate::payloads::{Payload, PayloadFault};
 use crate::triples::{Triple, Triples};
 use std::alloc::Global;
 
-/// Reads what the parameters of an option's subnegotiation say, no byte among them doubled: of NAWS
-/// (31, RFC 1073) and of LINEMODE (34, RFC 1184, section 2). `UnknownOption` for each other option,
-/// `UnknownSub` for another kind of LINEMODE subnegotiation, `BadLength` for one of another length
-/// than its kind has; `Memory` for a list of local characters alone.
+/// Reads the payload that the parameters of an option's subnegotiation encode, of NAWS (31, RFC
+/// 1073) or LINEMODE (34, RFC 1184, section 2). No byte of the parameters is doubled.
+///
+/// # Errors
+///
+/// - `UnknownOption`: the option is neither NAWS nor LINEMODE.
+/// - `UnknownSub`: the option is LINEMODE, and the subnegotiation is of no known kind.
+/// - `BadLength`: the length is not one that the kind has.
+/// - `Memory`: there is no memory for a list of local characters; other payloads take none.
 pub fn read_payload(alloc: Global, option: u8, bytes: &[u8]) -> Result<Payload, PayloadFault>
     ensures ok { IfOk result (λ payload. Says option bytes.now payload) }
     ensures said { (payload : Payload) → Says option bytes.now payload →
@@ -26,7 +31,7 @@ pub fn read_payload(alloc: Global, option: u8, bytes: &[u8]) -> Result<Payload, 
     ensures bad_length { IsErrOf result PayloadFault.BadLength ↔ HasBadLength option bytes.now }
     ensures memory { IsErrOf result PayloadFault.Memory → TakesMemory option bytes.now }
 
-    // The same by the function.
+    // The clauses above by one function.
     ensures payload { MatchResult result (λ payload. payload_of option bytes.now ≡ Some payload)
         (λ fault. fault ≢ PayloadFault.Memory → payload_of option bytes.now ≡ None) }
 {

@@ -11,9 +11,10 @@ use std::marker::Model;
 /// three octets (RFC 1184, section 2.4).
 #[derive(Clone, Copy, PartialEq, Eq)]
 pub struct Triple {
-    /// 1 to 18 for the functions that have names.
+    /// The code of the function: 1 to 18 for those that have names.
     pub func: u8,
-    /// The level in the two low bits; then SLC_FLUSHOUT 32, SLC_FLUSHIN 64 and SLC_ACK 128.
+    /// The modifier: the level in the two low bits, then SLC_FLUSHOUT 32, SLC_FLUSHIN 64 and
+    /// SLC_ACK 128.
     pub flags: u8,
     /// The character; 255 for none.
     pub value: u8,
@@ -35,7 +36,7 @@ impl Model for Triples {
 }
 
 impl Triples {
-    /// An empty list, which takes no memory.
+    /// Makes an empty list, which takes no memory.
     pub fn new(alloc: Global) -> Triples
         ensures { result ≡ [] }
     {
@@ -62,7 +63,7 @@ impl Triples {
         self.triples.is_empty()
     }
 
-    /// The list as a vector, with no copy.
+    /// Returns the list as a vector, with no copy.
     pub fn into_vec(self) -> Vec<Triple>
         ensures { result.items ≡ self }
     {

@@ -13,8 +13,14 @@ use crate::payloads::Payload;
 use crate::triples::Triple;
 use std::alloc::AllocError;
 
-/// Appends the parameters that say a payload, no byte among them doubled. They fit one
-/// subnegotiation, and are read as that payload again (RFC 1073, RFC 1184).
+/// Appends the parameters that encode a payload, at most 511 bytes, no byte of them doubled. They
+/// fit one subnegotiation, and `read_payload` reads the payload from them again (RFC 1073, RFC
+/// 1184).
+///
+/// # Errors
+///
+/// - `AllocError`: `out` has too little capacity, and there is no memory for more; `out` is as
+///   before.
 pub fn write_payload(payload: &Payload, out: &mut Vec<u8>) -> Result<(), AllocError>
     requires { IsShort payload.now }
     ensures ok { OnOk result (out.new.items ≡ out.old.items ++ parameters_of payload.now) }
@@ -35,15 +41,15 @@ pub fn write_payload(payload: &Payload, out: &mut Vec<u8>) -> Result<(), AllocEr
     }
 }
 
-/// Two or four parameters, which stand in no list.
+/// Two or four parameters, in no list.
 #[derive(Clone, Copy)]
 pub enum Few {
     Two([u8; 2]),
     Four([u8; 4]),
 }
 
-/// The parameters of a payload that always has as many of them, at most four: `None` for a mask and
-/// for a list.
+/// Returns the parameters of a payload that always has the same number of them, at most four. It
+/// returns `None` for a mask and for a list.
 pub fn few_parameters(payload: &Payload) -> Option<Few>
     ensures some { IfSome result (λ few. listed few ≡ parameters_of payload.now) }
     ensures said { IfSome result (λ few. Says (option_of payload.now) (listed few) payload.now) }
@@ -64,14 +70,14 @@ pub fn few_parameters(payload: &Payload) -> Option<Few>
     }
 }
 
-/// The parameters of a list of one triple.
+/// Returns the parameters of a list of one triple.
 pub fn triple_parameters(triple: Triple) -> [u8; 4]
     ensures { result ≡ parameters_of (Payload.Slc (triple ∷ [])) }
 {
     [SLC, triple.func, triple.flags, triple.value]
 }
 
-/// How many octets of a mask there are without the zeros at their end.
+/// Returns the length of a mask's octets without the zeros at their end, 0 to 32.
 pub fn trimmed_len(octets: &[u8; 32]) -> usize
     ensures octets { take result octets.now ≡ mask.trimmed_octets octets.now }
     ensures within { result ≤ 32 }
@@ -85,7 +91,7 @@ pub fn trimmed_len(octets: &[u8; 32]) -> usize
     len
 }
 
-// The octets without the zeros at their end.
+// Returns the octets without the zeros at their end.
 fn trimmed(octets: &[u8; 32]) -> &[u8]
     ensures octets { result.now ≡ mask.trimmed_octets octets.now }
     ensures filled { octets.now ≡ mask.filled_octets result.now }

@@ -1,4 +1,4 @@
--- What an error of the network is told as is no fault of a session.
+-- The fault as which an error of the network is reported is no fault of a session.
 use Rattle.std.specs.declared.io.Error.{Error}
 use Rattle.tn_connect.specs.{Faults.{IsOfNetwork, IsToldAs}, declared.fault.ConnectFault.{ConnectFault, TheVariants.{Network, Session, Memory}}}
 

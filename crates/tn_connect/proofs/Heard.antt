@@ -1,4 +1,4 @@
--- What was heard of a service that has no byte left is all that it gave.
+-- The bytes read from a service that has no byte left are all that it gave.
 use Rattle.std.proofs.Common.{◌≡◌, ℕ, List, ◌++◌, Option, Some, None, IfSome, sym, ap, ◌∙◌, append-nil}
 use Rattle.std.specs.Io.KnownBytes.{Consumes, IsAtEnd}
 

@@ -1,4 +1,4 @@
--- What the bytes of a reader are as keys.
+-- The keys that the bytes of a reader are.
 use Rattle.std.proofs.Common.{◌≡◌, ℕ, true, false, Option, Some, None, List, [], ◌∷◌, option_map, refl, ap}
 use Rattle.tn_connect.specs.{Talks.{is_terminal, lines_in, plain_keyboard}, declared.settings.KeySource.{KeySource, TheVariants.{Reader, Input, Terminal}}}
 use Rattle.tn_net.proofs.Sorting.{none_mapped}
@@ -13,7 +13,7 @@ none_changes : (bytes : Option (List ℕ)) → option_map (keys_typed of_bytes c
 none_changes None = refl
 none_changes (Some bytes) = ap Some (all_are_keys bytes)
 
--- without Telnet
+-- the keys of a terminal are not taken as lines
 pub at_terminal : (origin : KeySource) (bytes : Option (List ℕ)) → is_terminal origin ≡ true → lines_in origin bytes ≡ None
 at_terminal (Terminal own) bytes is = refl
 at_terminal Reader bytes is = let no_way : false ≡ true = is in cc

@@ -1,4 +1,4 @@
--- What a client's session put into its queue, which held nothing.
+-- The bytes that a client's session put into its queue, which held nothing.
 use Rattle.std.proofs.Common.{◌≡◌, ℕ, List, [], Option, Some, None, Result, Ok, Err, IfOk, subst, sym}
 use Rattle.crossbeam_channel.specs.Claims.{view}
 use Rattle.tn_connect.specs.{Clients.{RunsClient, RunsWriting}, declared.connected.Connected.Connected}
@@ -28,7 +28,7 @@ module _ (window : Window) (keys : KnownTyping) (seen now : Option (List ℕ)) w
       let P : Option (List ℕ) → Type 0 = λ o. IfOk r (λ r. RunsWriting window keys seen now o r.0 r.1) in
       subst P (sym e) h
 
-  -- of a session that is over
+  -- a session that is over ran as a client that writes what was put
   pub gives : (ended : Result (Report × ClientPorts) SessionFault) (queue : PiecePass) (r : Connected) → ended ≡ Ok (r.report, r.ports) → r.queue ≡ queue
       → IfOk ended (λ r. RunsWriting window keys seen now (put_bytes (view queue)) r.0 r.1) → RunsClient window keys seen now r
   gives ended queue r e same h =

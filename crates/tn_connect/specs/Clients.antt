@@ -1,4 +1,4 @@
--- Which session a client runs over a connection.
+-- The session that a client runs over a connection.
 use Rattle.std.specs.Prelude.{◌≡◌, ℕ, Bool, true, false, Option, Some, None, List, [], Result, Ok, Err, IfErr}
 use Rattle.std.specs.{Prelude.unwrap_or, declared.{io.Error.Error, net.tcp.TcpStream.TcpStream}}
 use Rattle.crossbeam_channel.specs.Claims.{view}
@@ -11,13 +11,14 @@ use Rattle.tn_session.specs.{Client.RunningClient, Facts.{Window, client_result}
 use Rattle.tn_session.specs.declared.parties.{ClientPorts.ClientPorts, Report.Report}
 use Rattle.tn_cores.specs.streams.{Beside.no_words, Known.KnownTyping}
 
+-- the window of a client, by its options
 abbrev pub window_of : Connecting → Window
 window_of connecting =
     record { width = connecting.width; height = connecting.height; limit = connecting.line_limit }
 
--- What is known beforehand of the keys of a reader with these bytes, which may be a text: the keys that they
--- are, and that no size of a window is told and nothing asked for; or nothing if they are waited for, but that
--- only at a terminal anything is asked for.
+-- The keys of a reader with these bytes, which may be a text, as known beforehand: the keys that the bytes
+-- are, with no size of a window and no request. If they are waited for, nothing is known but that only a
+-- terminal brings requests.
 abbrev pub foreseen : KeySource → Bool → Option (List ℕ) → KnownTyping
 foreseen Reader text bytes =
     record {
@@ -35,7 +36,7 @@ foreseen (Terminal own) text bytes =
       controls = None;
     }
 
--- what the bytes of keys stand for: only at a terminal for anything but themselves
+-- the meaning of the bytes of keys: only at a terminal they stand for anything but themselves
 abbrev pub keyboard_by : KeySource → Option ℕ → ReturnKey → Keyboard
 keyboard_by Reader escape returns = of_bytes
 keyboard_by Input escape returns = of_bytes
@@ -48,11 +49,12 @@ text_by Reader text = text
 text_by Input text = text
 text_by (Terminal own) text = false
 
+-- the meaning of the bytes that are typed, by the client's options
 abbrev pub keyboard_of : Connecting → Keyboard
 keyboard_of connecting = keyboard_by connecting.origin connecting.escape (unwrap_or connecting.returns CrNul)
 
 -- A client's session ran with these keys and this screen, before and after it, wrote these bytes, and gave
--- back this. Of what the connection brings nothing was known before, but that it tells no size; all that was
+-- back this. Nothing was known before of the connection's bytes, but that it brings no size; all that was
 -- read from it stands in the ports.
 abbrev pub RunsWriting : Window → KnownTyping → Option (List ℕ) → Option (List ℕ) → Option (List ℕ) → Report
     → ClientPorts → Type 0
@@ -65,7 +67,7 @@ RunsWriting window keys seen now written report ports =
     (record { before = record { bytes = seen; calls = None }; after = record { bytes = now; calls = None } })
     (client_result report ports)
 
--- the same, of what it gave back: all that it wrote was put into the queue
+-- a client's session ran as `RunsWriting` states, and all that it wrote was put into the queue
 abbrev pub RunsClient : Window → KnownTyping → Option (List ℕ) → Option (List ℕ) → Connected → Type 0
 RunsClient window keys seen now connected =
     RunsWriting window keys seen now (put_bytes (view connected.queue)) connected.report connected.ports
@@ -74,13 +76,13 @@ RunsClient window keys seen now connected =
 abbrev pub connection_of : Connected → TcpStream
 connection_of connected = connected.connection.value
 
--- a session ran over the connection that there is; where there was none, that is told
+-- a session ran over the connection that there is; if there was none, that is reported
 abbrev pub NeedsConnection : {A : Type 0} → (A → TcpStream) → Result A ConnectFault → Result TcpStream Error
     → Type 0
 NeedsConnection over (Ok ran) reached = reached ≡ Ok (over ran)
 NeedsConnection over (Err fault) reached = IfErr reached (λ error. IsToldAs error fault)
 
--- it was asked for a connection, and this came of it, over that connection
+-- a connection was asked for, and the result came over that connection
 abbrev pub ConnectsBy : {A : Type 0} → (A → TcpStream) → (Result TcpStream Error → Type 0)
     → Result A ConnectFault → Type 0
 ConnectsBy over reaches result =

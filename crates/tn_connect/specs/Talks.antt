@@ -1,4 +1,4 @@
--- Which talk a client has with a service that takes lines.
+-- The talk that a client has with a service that takes lines.
 use Rattle.std.specs.Prelude.{◌≡◌, ◌≢◌, ℕ, Bool, true, false, Option, Some, None, IfSome, List, [], length}
 use Rattle.std.specs.declared.net.tcp.TcpStream.{TcpStream}
 use Rattle.tn_connect.specs.declared.settings.KeySource.{KeySource, TheVariants.{Reader, Input, Terminal}}
@@ -8,12 +8,13 @@ use Rattle.tn_net.specs.declared.returns.ReturnKey.TheVariants.{CrNul}
 use Rattle.tn_lines.specs.{Logs.bytes_in, Openings.{negotiates, warnings_if}, Talking.{Talked, streams}}
 use Rattle.tn_lines.specs.declared.{line_ends.LineEnd.LineEnd, talk.Over.TheVariants.{Closed, Broken}}
 
+-- the keys come from a terminal
 abbrev pub is_terminal : KeySource → Bool
 is_terminal (Terminal own) = true
 is_terminal Reader = false
 is_terminal Input = false
 
--- what the bytes of keys stand for: only at a terminal for anything but themselves
+-- the meaning of the bytes of keys: only at a terminal they stand for anything but themselves
 abbrev pub plain_keyboard : KeySource → Option ℕ → Keyboard
 plain_keyboard (Terminal own) escape =
     record { escape = escape; own = own; editing = own; returns = CrNul; may_change = false }
@@ -26,9 +27,9 @@ lines_in (Terminal own) bytes = None
 lines_in Reader bytes = bytes
 lines_in Input bytes = bytes
 
--- A talk was held with these lines and this screen, before and after it: all that was read, came and was sent stands in
--- the logs, and so many bytes more were to be sent. The user was warned once if what came shows that the service speaks
--- Telnet, and else not.
+-- A talk was held with these lines and this screen, before and after it: all that was read, came and was sent
+-- stands in the logs, and the waiting bytes were still to be sent. The user was warned once if the bytes that
+-- came show that the service speaks Telnet, and else not.
 pub record HoldsTalk (line_end : LineEnd) (origin : KeySource) (keys seen now : Option (List ℕ)) (report : TalkReport)
     : Type 0 where
   pub unsent : List ℕ
@@ -55,7 +56,7 @@ abbrev pub RunsTalk : LineEnd → KeySource → Option (List ℕ) → Option (Li
 RunsTalk line_end origin bytes seen now report =
     HoldsTyped line_end origin bytes seen now report × (report.over ≢ Broken)
 
--- if the talk ended since the service closed: all that the service was to give was heard
+-- if the talk ended since the service closed: all that the service was to give was read
 abbrev pub HeardToTheEnd : Option (List ℕ) → TalkReport → Type 0
 HeardToTheEnd service report =
     report.over ≡ Closed → IfSome service (λ bytes. bytes_in report.heard ≡ bytes)

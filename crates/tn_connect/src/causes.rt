@@ -1,5 +1,5 @@
-//! Why a connection failed, as its user is told, in lines. Out of memory a line is dropped, and one that has
-//! a value in it may be cut.
+//! The causes of a failed connection, as lines for its user. Out of memory a line is dropped, and a
+//! line that has a value in it may be truncated.
 
 use std::io::Write;
 use tn_net::Link;

@@ -51,7 +51,7 @@ struct Opened<H> {
 }
 
 impl<H: Host> Opened<H> {
-    // Once more what both directions share.
+    // Returns once more the link and the trace, which both directions share.
     fn shared(&self) -> Result<(Arc<Link, Global>, Trace<H>), AllocError> {
         let link = Arc::try_clone(&self.link)?;
         let trace = self.trace.try_clone()?;
@@ -82,12 +82,12 @@ struct Talked {
     connection: Snapshot<TcpStream>,
 }
 
-// What the reader of a connection and the reader of keys know of each other.
+// The flags that the reader of a connection and the reader of keys share.
 #[derive(Drop)]
 struct Flags {
     // Nothing more comes over the connection.
     is_over: Arc<AtomicBool, Global>,
-    // The keys have ended, and the server was told.
+    // The keys have ended, and the server got the end of the stream.
     has_ended: Arc<AtomicBool, Global>,
 }
 
@@ -98,7 +98,7 @@ impl Flags {
         Ok(Flags { is_over, has_ended })
     }
 
-    // The same ones, for the other reader.
+    // Returns the same flags once more, for the other reader.
     fn share(&self) -> Result<Flags, AllocError> {
         let is_over = Arc::try_clone(&self.is_over)?;
         let has_ended = Arc::try_clone(&self.has_ended)?;
@@ -106,7 +106,7 @@ impl Flags {
     }
 }
 
-// A connection as it is read, which is silent for so many seconds at most.
+// Makes the reading side of a connection, which may be silent for at most this number of seconds.
 fn brought_by(
     reader: TcpStream,
     flags: Flags,
@@ -164,7 +164,7 @@ fn wire<H: Host, Q: Queue>(
     })
 }
 
-// A connection's two directions, as they are read and written.
+// Splits a connection into its two directions, as they are read and written.
 #[tactic(auto, using(crate::proofs::Faults::of_network))]
 fn split<H: Host>(
     rt: &H,
@@ -179,7 +179,7 @@ fn split<H: Host>(
     Ok((reader, writer))
 }
 
-// Each read returns after a look, if it matters how long the server is silent.
+// Makes each read return after a look, if it matters how long the server is silent.
 fn wait_for_looks(reader: &TcpStream, patience: u32) -> Result<(), ConnectFault>
     ensures fault { IfErr result IsOfNetwork }
 {
@@ -259,7 +259,7 @@ fn talk_from<H: Host, K: Read + Drop + Send + 'static, S: Write, Q: Queue>(
     }
 }
 
-// Standard input as keys.
+// Makes keys of standard input.
 fn console_of<H: Host, K: Read + Drop>(
     rt: H,
     alloc: Global,
@@ -272,7 +272,8 @@ fn console_of<H: Host, K: Read + Drop>(
     Console::new(rt, alloc, typing, keyboard_of(connecting))
 }
 
-// The keys of a terminal, which are edited as lines while the client holds lines until they end.
+// Makes the keys of a terminal, which are edited as lines while the client holds lines until they
+// end.
 fn line_keys_of<H: Host, K: Read + Drop>(
     rt: H,
     alloc: Global,
@@ -292,14 +293,15 @@ fn line_keys_of<H: Host, K: Read + Drop>(
     LineKeys::new(rt, alloc, console, link, mode)
 }
 
-// The screen of a terminal, for one more who shows something there.
+// Returns the screen of a terminal once more, for another part that shows something there.
 fn screen_of<H, K>(typing: &Typing<H, K>) -> Option<File> {
     let terminal = typing.terminal.as_ref()?;
     let screen = terminal.screen.as_ref()?;
     screen.try_clone().ok()
 }
 
-// Only at a terminal a byte stands for anything but itself.
+// Returns the meaning of the bytes that are typed: only at a terminal a byte stands for anything
+// but itself.
 fn keyboard_of(connecting: &Connecting) -> Keyboard
     ensures { result ≡ keyboard_of connecting.now }
 {
@@ -315,7 +317,7 @@ fn keyboard_of(connecting: &Connecting) -> Keyboard
     }
 }
 
-// The same, whose keys may be the bytes of a text.
+// Makes keys from this input, which may be the bytes of a text.
 fn as_text<H, K>(typing: Typing<H, K>, is_text: bool) -> Typing<H, TextKeys<K>>
     ensures { result.keys ≡ record { keys = typing.keys; is_text = is_text; after_return = false } }
 {
@@ -343,7 +345,7 @@ fn as_text<H, K>(typing: Typing<H, K>, is_text: bool) -> Typing<H, TextKeys<K>>
     }
 }
 
-// Whether the keys are the bytes of a text. A terminal's are not.
+// Returns whether the keys are the bytes of a text. A terminal's are not.
 fn is_text(connecting: &Connecting) -> bool
     ensures { result ≡ text_by connecting.now.origin connecting.now.text }
 {
@@ -407,7 +409,7 @@ fn talk_and_send<H: Host, K: Read + Drop + Send + 'static, S: Write, Q: Queue + 
     })
 }
 
-// The files that a client has: what `ClientContext` says of them.
+// The files of a client, as `ClientContext` describes them.
 #[derive(Drop)]
 struct Files {
     trace: Option<File>,
@@ -416,14 +418,15 @@ struct Files {
     terminal: Option<File>,
 }
 
-// What a session over a connection works with.
+// The parts of a session over a connection.
 struct Laid<H, K> {
     opened: Opened<H>,
     typing: Typing<H, K>,
     trace: Trace<H>,
 }
 
-// A trace to this file, for the connection and for the one that asks at its end whether it is whole.
+// Makes a trace to this file, for the connection and for the part that asks at its end whether it
+// is whole.
 fn traces<H: Host>(
     rt: H,
     alloc: Global,
@@ -434,7 +437,7 @@ fn traces<H: Host>(
     Ok((trace, written))
 }
 
-// The link, for the connection and for the keys.
+// Returns the link twice, for the connection and for the keys.
 fn links(link: &Arc<Link, Global>) -> Result<(Arc<Link, Global>, Arc<Link, Global>), AllocError> {
     let wired = Arc::try_clone(link)?;
     let asked = Arc::try_clone(link)?;
@@ -490,10 +493,17 @@ fn lay_out<H: Host, K: Drop>(
     })
 }
 
-/// Connects to a host, an address or a name, and runs a client's session over the connection, with these
-/// keys and this screen, until the server has closed or the user leaves. What a session that ends without a
-/// fault returns tells contracts all that was read from the connection, all that the session wrote, and what
-/// the connection took of it. Of a fault the causes are noted.
+/// Connects to a host, an address or a name, and runs a client's session over the connection, with
+/// these keys and this screen, until the server has closed or the user leaves. The result of a
+/// session without a fault shows contracts all that was read from the connection, all that the
+/// session wrote, and the part of it that the connection took. The causes of a fault are noted in
+/// `notes.causes`, a line each.
+///
+/// # Errors
+///
+/// - `Network`: no connection was made, or it could not be set up.
+/// - `Session`: the session ended in a fault, which the noted line names.
+/// - `Memory`: there is no memory.
 pub fn connect<H: Host + Network, K: Read + Drop + Send + 'static, S: Write, E: Drain>(
     rt: H,
     alloc: Global,
@@ -587,7 +597,8 @@ fn note_break(causes: &mut Vec<u8>, unsent: usize) {
     }
 }
 
-// The result of a session that is over. Where its sending failed it is a fault, unless its user has left.
+// Returns the result of a session that is over. If its sending failed, that is a fault, unless its
+// user has left.
 fn result_of(talked: Talked, is_left: bool) -> Result<Connected, ConnectFault>
     ensures ran { IfOk result (λ r. (talked.ended ≡ Ok (r.report, r.ports)) × (r.queue ≡ talked.queue)) }
     ensures log { IfOk result (λ r. (r.log ≡ talked.log) × (IsTrue r.all_sent → talked.sent ≡ Ok Whole)) }
@@ -619,14 +630,14 @@ fn result_of(talked: Talked, is_left: bool) -> Result<Connected, ConnectFault>
     })
 }
 
-// Whether all was sent.
+// Returns whether all was sent.
 fn is_whole(sent: &io::Result<Sent>) -> bool
     ensures { IsTrue result → sent.now ≡ Ok Whole }
 {
     matches!(sent, Ok(Sent::Whole))
 }
 
-// The fault that a session ended in, if it did.
+// Returns the fault in which a session ended, if it did.
 fn fault_of<P: Drop>(ended: &Result<(Report, P), SessionFault>) -> Option<SessionFault> {
     match ended {
         Ok((report, _)) => match report.ended {
@@ -648,7 +659,7 @@ fn note_fault(causes: &mut Vec<u8>, fault: SessionFault, link: &Link) {
     }
 }
 
-// Notes how much was not sent, and why. Whoever reads the screen and leaves wants no more of it.
+// Notes how much was not sent, and why, unless a reader of the screen has left, who wants no more.
 fn note_rest(causes: &mut Vec<u8>, unsent: usize, link: &Link) {
     if unsent == 0 || link.is_dark() {
         return;
@@ -661,7 +672,7 @@ fn note_rest(causes: &mut Vec<u8>, unsent: usize, link: &Link) {
     note_unsent(causes, why, unsent);
 }
 
-// The result of a session that ended without a fault.
+// Returns the result of a session that ended without a fault.
 fn if_whole<P: Drop>(ended: Result<(Report, P), SessionFault>) -> Result<(Report, P), ConnectFault>
     ensures ran { IfOk result (λ r. ended ≡ Ok r) }
     ensures whole { IfOk result (λ r. EndsWhole r.0.ended) }

@@ -1,4 +1,4 @@
-//! Why connecting failed.
+//! The reasons why connecting failed.
 
 ghost use Rattle.std.specs.Prelude.{◌≡◌};
 
@@ -6,7 +6,7 @@ use std::alloc::{AllocError, AllocFailed};
 use std::io;
 use thiserror::Error;
 
-/// Why connecting failed.
+/// The reason why connecting failed.
 #[derive(Clone, Copy, Debug, PartialEq, Eq, Error)]
 pub enum ConnectFault {
     /// No connection was made, or it could not be set up.

@@ -1,11 +1,14 @@
 //! A client's session over a connection, in threads of its own.
 //!
+//! Begin with `connect`, and with `Connecting`, its options; `connect_plain` and `Plain` are for a
+//! service that takes lines and negotiates nothing.
+//!
 //! ```
 //! let ended = connect(rt, alloc, "host", connecting, keys, &mut screen, notes)?;
 //! ```
 //!
-//! Nothing is proved about what a connection carries: the session is proved for whatever its readers give,
-//! and this crate only starts and joins its threads. It encrypts nothing.
+//! The bytes that a connection carries are not proved: the session is proved for all bytes that its
+//! readers give, and this crate only starts and joins its threads. It encrypts nothing.
 #![tactic(auto)]
 
 pub use connected::Connected;

@@ -1,4 +1,4 @@
-//! What the user at a terminal is told of a connection.
+//! The lines about a connection for the user at a terminal.
 
 use libc::net::{POLLIN, poll};
 use libc::types::pollfd;
@@ -10,23 +10,23 @@ use std::os::fd::AsRawFd;
 use tn_cores::streams::{Drain, write_all};
 use tn_net::network::Trying;
 
-/// The line that says that a connection stands: ACK and a line feed.
+/// The line that reports that a connection stands: ACK and a line feed.
 const STANDS: &[u8] = b"\x06\n";
 
 /// The line that asks for one on the pipe of sizes, once all lines before it are shown and the terminal is set:
 /// ENQ and a line feed.
 const ASKS: &[u8] = b"\x05\n";
 
-/// How many milliseconds the screen waits for that at most.
+/// The most milliseconds for which the screen waits for that.
 const HELD: i32 = 1_000;
 
-/// Tells of a connection, a line each, or tells nothing. A line that can't be written is dropped.
+/// A writer of lines about a connection, or of none. A line that cannot be written is dropped.
 #[derive(Drop)]
 pub struct News<'a, W> {
-    /// Gets the lines.
+    /// The writer that gets the lines.
     pub writer: &'a mut W,
     pub alloc: Global,
-    /// Whether there are any.
+    /// Whether lines are written.
     pub is_told: bool,
 }
 
@@ -54,7 +54,8 @@ impl<'a, W: Drain> News<'a, W> {
         write_all(self.writer, &line);
     }
 
-    /// Nothing is told of a connection that failed: the causes of that are.
+    /// Writes that a connection closed. For one that failed it writes nothing: the causes are
+    /// written for that.
     pub(crate) fn close(&mut self, host: &str, is_left: bool, is_whole: bool) {
         if !self.is_told || !is_whole {
             return;

@@ -1,4 +1,4 @@
-//! Waiting for keys, for what a service says, and for room.
+//! Waits for keys, for the service's bytes, and for room.
 
 ghost use Rattle.std.specs.Prelude.{◌≡◌, Some, true};
 ghost use Rattle.tn_connect.specs.Warnings.{count_in};
@@ -24,10 +24,12 @@ const NO_DESCRIPTOR: i32 = -1;
 /// The time for which `poll` waits without an end (POSIX).
 const FOR_EVER: i32 = -1;
 
-/// After how many milliseconds it is looked whether the service is to be told that no more comes.
+/// The number of milliseconds after which it is checked whether the service is to get the end of
+/// the stream.
 const LOOK: i32 = 200;
 
-/// How many milliseconds a user who leaves waits at most for what he typed before to be taken.
+/// The most milliseconds for which a user who leaves waits until the service has taken the lines
+/// that were typed before.
 const LEAVING: i32 = 1_000;
 
 const TELNET: &[u8] = b"tn: the other end speaks Telnet: leave out --plain\n";
@@ -39,19 +41,20 @@ pub(crate) struct Polling<'a, H, E> {
     rt: H,
     origin: KeySource,
     service: i32,
-    /// How many seconds after the end of the keys the service is told that no more comes.
+    /// The number of seconds after the end of the keys at which the service gets the end of the
+    /// stream.
     wait: u32,
-    /// For how many seconds it may be silent after that; at 0 for ever.
+    /// The number of seconds for which the service may be silent after that; 0 for ever.
     patience: u32,
     link: &'a Link,
-    /// Since when it is to be told.
+    /// The moment at which the keys ended.
     ended: Option<Instant>,
-    /// When something passed last.
+    /// The moment at which something passed last.
     passed: Option<Instant>,
-    /// What the service said comes next, where both that and telling it more can be done.
+    /// Whether the service's bytes come next, if both reading them and sending more can be done.
     hears_next: bool,
     errors: &'a mut E,
-    /// How often the user was warned that the service speaks Telnet.
+    /// The number of warnings to the user that the service speaks Telnet.
     warned: Warnings,
 }
 
@@ -81,7 +84,8 @@ impl<'a, H, E> Polling<'a, H, E> {
     }
 }
 
-// A user who types the end of file means it at once.
+// Returns the seconds to wait at the end of the keys: 0 at a terminal, whose user types the end of
+// file.
 fn wait_of(plain: &Plain) -> u32 {
     match plain.origin {
         KeySource::Terminal(_) => 0,
@@ -89,7 +93,7 @@ fn wait_of(plain: &Plain) -> u32 {
     }
 }
 
-// A user at a terminal waits as long as he likes.
+// Returns the seconds for which the service may be silent: 0, which is for ever, at a terminal.
 fn patience_of(plain: &Plain) -> u32 {
     match plain.origin {
         KeySource::Terminal(_) => 0,
@@ -98,7 +102,7 @@ fn patience_of(plain: &Plain) -> u32 {
 }
 
 impl<'a, H: Clock, E> Polling<'a, H, E> {
-    // From now on the service is to be told that no more comes.
+    // Notes the moment from which the end of the stream is due to the service.
     fn note_end(&mut self)
         ensures errors { self.new.errors ≡ self.old.errors }
         ensures warned { self.new.warned ≡ self.old.warned }
@@ -108,12 +112,12 @@ impl<'a, H: Clock, E> Polling<'a, H, E> {
         }
     }
 
-    // Whether the time since the end of the keys has passed. Without a clock it has.
+    // Returns whether the time since the end of the keys has passed. Without a clock it has.
     fn is_past(&self) -> bool {
         self.wait == 0 || self.has_passed(self.ended, self.wait)
     }
 
-    // Whether so many seconds have passed. Without a clock they have.
+    // Returns whether this number of seconds has passed. Without a clock it has.
     fn has_passed(&self, since: Option<Instant>, seconds: u32) -> bool {
         match since.map(|since| since.elapsed(&self.rt)) {
             Some(Ok(elapsed)) => elapsed.as_secs() >= u64::from(seconds),
@@ -128,13 +132,13 @@ impl<'a, H: Clock, E> Polling<'a, H, E> {
         }
     }
 
-    // Whether it matters how long the service is silent: the keys have ended.
+    // Returns whether the silence of the service counts: the keys have ended.
     fn is_counted(&self) -> bool {
         self.patience > 0 && self.ended.is_some()
     }
 }
 
-// What can be done at a descriptor is waited for, where it is wanted.
+// Returns what `poll` waits for at a descriptor, if that is wanted.
 fn waits_at(wanted: bool, fd: i32, events: i16) -> pollfd {
     pollfd {
         fd: if wanted { fd } else { NO_DESCRIPTOR },
@@ -144,14 +148,15 @@ fn waits_at(wanted: bool, fd: i32, events: i16) -> pollfd {
 }
 
 impl<'a, H: Clock + Copy + Wait, E> Polling<'a, H, E> {
-    /// How often the user was warned since the last call.
+    /// Returns the number of warnings to the user since the last call.
     pub(crate) fn take_warned(&mut self) -> Warnings
         ensures { result ≡ self.old.warned }
     {
         mem::replace(&mut self.warned, Warnings::new())
     }
 
-    // What can be done once the user leaves: what he typed before is told as long as it is taken.
+    // Returns what can be done once the user leaves: the lines that were typed before are sent as
+    // long as they are taken.
     fn leave(&self, wants: Wants) -> Ready {
         let mut waited = [waits_at(wants.room, self.service, POLLOUT)];
         if wants.room && poll(&mut waited, LEAVING) > 0 && waited[0].revents & POLLOUT != 0 {

@@ -1,4 +1,4 @@
-//! What a session has agreed on is kept where the user's questions are answered.
+//! Keeps the terms of a session for the thread that answers the user's questions.
 
 use std::alloc::{AllocError, Global};
 use std::sync::Arc;
@@ -6,7 +6,7 @@ use tn_discipline::Chars;
 use tn_net::Link;
 use tn_session::{Gate, Origin, Place, Terms};
 
-/// Notes what the client's core tells, after each message.
+/// A publisher of the terms and the end that the client's core reports, after each message.
 #[derive(Drop)]
 pub(crate) struct Publisher {
     link: Arc<Link, Global>,
@@ -39,14 +39,15 @@ impl Gate for Publisher {
         self.link.note_held(terms.held);
     }
 
-    // The thread of the keys waits for its user no longer.
+    // Notes that the thread of the keys waits for its user no longer.
     fn over(&self) {
         self.link.close();
     }
 }
 
-// Whether a line that is edited here goes as a whole once it ends: a signal in it goes as its command, which leaves
-// the line as it is, no byte of it is in a forward mask, and the standard characters edit it.
+// Returns whether a line that is edited at the client goes as a whole once it ends: a signal in it
+// goes as its command, which leaves the line as it is, no byte of it is in a forward mask, and the
+// standard characters edit it.
 fn goes_whole(terms: &Terms) -> bool {
     terms.traps && !terms.forwards && terms.chars == Chars::standard()
 }

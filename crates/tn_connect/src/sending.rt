@@ -12,7 +12,7 @@ use std::thread::{Promise, PromisedHandle};
 use std::{io, thread};
 use tn_net::{Connection, Host, Logged, PiecePass, Queue, Sending, Sent, WriteLog};
 
-/// What sends over a connection, and has sent nothing yet.
+/// A sender over a connection, which has sent nothing yet.
 #[derive(Drop)]
 pub(crate) struct Sender<H, Q: Queue> {
     pub(crate) sending: Sending<H, Logged<Connection<TcpStream>>, Q>,
@@ -20,8 +20,8 @@ pub(crate) struct Sender<H, Q: Queue> {
     ghost sent: { logged sending.writer.log ≡ [] },
 }
 
-/// What was sent: how it ended, the log of what the connection took, and the pass of what was taken from the
-/// queue.
+/// The result of sending: how it ended, the log of the bytes that the connection took, and the pass
+/// of those that were taken from the queue.
 #[derive(Drop)]
 pub(crate) struct Delivered {
     pub(crate) sent: io::Result<Sent>,
@@ -29,7 +29,7 @@ pub(crate) struct Delivered {
     pub(crate) taker: PiecePass,
 }
 
-/// What the thread promises of what it gives back.
+/// The promise of the thread that sends, about what it gives back.
 #[derive(Drop)]
 pub(crate) struct Delivers<Q: Queue> {
     of: PhantomData<Q>,
@@ -42,7 +42,7 @@ impl<Q: Queue> Promise<Delivered> for Delivers<Q> {
 }
 
 impl<H: Host, Q: Queue + Send + 'static> Sender<H, Q> {
-    /// Sends in a thread of its own, where one can be had.
+    /// Sends in a thread of its own, if one can be had.
     pub(crate) fn start(self, rt: H) -> Option<PromisedHandle<Delivered, Delivers<Q>>> {
         let work = move || -> Delivered
             ensures { IsDelivered Q.table Q.key result }

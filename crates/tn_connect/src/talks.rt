@@ -27,19 +27,20 @@ use tn_net::{
     PlainLines, ReturnKey, Sizes, Terminal, Trace, WriteLog,
 };
 
-/// A talk that is over. In its logs contracts see all that was typed, said and told, and each warning.
+/// The result of a talk that is over. Its logs show contracts all that was typed and all that
+/// passed in both directions, and each warning.
 #[derive(Drop)]
 pub struct TalkReport {
     pub over: Over,
     /// The lines that were read.
     pub typed: ReadLog,
-    /// What the service said.
+    /// The bytes that the service sent.
     pub heard: ReadLog,
-    /// What the service was told.
+    /// The bytes that were sent to the service.
     pub told: WriteLog,
-    /// How many bytes more it was to be told.
+    /// The number of bytes that were still to be sent.
     pub unsent: usize,
-    /// How often the user was warned that the service speaks Telnet.
+    /// The number of warnings to the user that the service speaks Telnet.
     pub warned: Warnings,
     /// The connection that it was held over, for contracts.
     pub connection: Snapshot<TcpStream>,
@@ -87,7 +88,8 @@ fn talk<
     })
 }
 
-// Only at a terminal a byte stands for anything but itself.
+// Returns the meaning of the bytes that are typed: only at a terminal a byte stands for anything
+// but itself.
 fn keyboard_of(origin: KeySource, escape: Option<u8>) -> Keyboard
     ensures { result ≡ plain_keyboard origin escape }
 {
@@ -109,11 +111,17 @@ fn is_terminal(origin: KeySource) -> bool
     matches!(origin, KeySource::Terminal(_))
 }
 
-/// Connects to a host, an address or a name, and talks to the service there by lines, with these keys and
-/// this screen, until the service has closed or the user has left. At a terminal lines are edited as at one
-/// of its own, and the user speaks to the client itself after the escape character; those of any other input
-/// go as they are. That the service speaks Telnet is reported as soon as it shows. Of a fault the causes are
-/// noted.
+/// Connects to a host, an address or a name, and talks to the service there by lines, with these
+/// keys and this screen, until the service has closed or the user has left. At a terminal lines are
+/// edited as at one of its own, and the user speaks to the client itself after the escape
+/// character; the lines of any other input go as they are. That the service speaks Telnet is
+/// reported as soon as it shows. The causes of a fault are noted in `notes.causes`, a line each.
+///
+/// # Errors
+///
+/// - `Network`: no connection was made, or it could not be set up.
+/// - `Session`: the talk ended in a fault, which the noted line names.
+/// - `Memory`: there is no memory.
 pub fn connect_plain<H: Host + Network, K: Read + Drop, S: Write, E: Drain>(
     rt: H,
     alloc: Global,
@@ -182,7 +190,7 @@ struct Around<'a, H> {
     trace: &'a Trace<H>,
 }
 
-// A terminal's file once more.
+// Returns a terminal's file once more.
 fn copy_of(terminal: &Option<File>) -> Option<File> {
     terminal.as_ref()?.try_clone().ok()
 }
@@ -245,7 +253,8 @@ fn has_left(ended: &Result<TalkReport, ConnectFault>) -> bool {
     }
 }
 
-// A talk that is over, unless it ended in a fault or its connection broke. What the user is to know is noted.
+// Returns a talk that is over, unless it ended in a fault or its connection broke. The causes for
+// the user are noted.
 fn ended_of(
     talked: Result<TalkReport, TalkFault>,
     causes: &mut Vec<u8>,

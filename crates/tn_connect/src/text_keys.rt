@@ -6,7 +6,7 @@ ghost use Rattle.tn_connect.specs.Texts.{key_of_text, keys_of_text, with_text};
 use std::io;
 use std::io::{ErrorKind, Read};
 
-/// How many bytes are read at once.
+/// The number of bytes that are read at once.
 const PIECE_BYTES: usize = 4_096;
 
 /// The keys that the bytes of a reader are; of a text CR LF is one RETURN, and so is LF.
@@ -19,7 +19,7 @@ pub(crate) struct TextKeys<K> {
 }
 
 impl<K> TextKeys<K> {
-    /// The keys that come from there.
+    /// Makes keys of this reader's bytes.
     pub(crate) fn new(keys: K, is_text: bool) -> TextKeys<K>
         ensures { result ≡ record { keys = keys; is_text = is_text; after_return = false } }
     {
@@ -55,7 +55,7 @@ fn keys_of(after_return: bool, bytes: &[u8], buf: &mut [u8]) -> (usize, bool)
     (count, after)
 }
 
-// The key that a byte of a text is, if it is one.
+// Returns the key that a byte of a text is, if it is one.
 fn key_of(after_return: bool, byte: u8) -> Option<u8>
     ensures { option_to_list result ≡ key_of_text after_return byte }
 {

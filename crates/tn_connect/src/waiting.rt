@@ -1,4 +1,4 @@
-//! Keys whose end is told late, so that a server that hangs up at it has time to answer.
+//! Keys whose end is reported late, so that a server that hangs up at it has time to answer.
 
 ghost use Rattle.std.specs.{Prelude.{◌≡◌, None}, Io.{ReadsAtMost, KnownBytes.ReadConsumes}};
 ghost use Rattle.tn_cores.specs.streams.Beside.{TellsNext};
@@ -12,29 +12,30 @@ use std::time::Clock;
 use tn_cores::streams::{Source, WindowSize, nothing_to_say};
 use tn_net::Link;
 
-/// After how many milliseconds it is looked whether more can come, and how often that is in a second.
+/// The number of milliseconds between two looks whether more can come. `LOOKS` is the number of
+/// looks in a second.
 pub(crate) const LOOK: u16 = 200;
 
 pub(crate) const LOOKS: u64 = 5;
 
-/// How long a server may be silent once the input has ended.
+/// The patience with a server that is silent once the input has ended.
 #[derive(Drop)]
 pub(crate) struct Patience {
-    /// The input has ended, and the server was told.
+    /// The input has ended, and the server got the end of the stream.
     pub(crate) has_ended: Arc<AtomicBool, Global>,
-    /// For how many seconds it may be; at 0 for ever.
+    /// The number of seconds for which the server may be silent; 0 for ever.
     pub(crate) seconds: u32,
-    /// How many looks passed without a byte since then.
+    /// The number of looks that passed without a byte since then.
     pub(crate) looks: u64,
 }
 
 impl Patience {
-    // Something came.
+    // Notes that something came.
     fn renew(&mut self) {
         self.looks = 0;
     }
 
-    // Nothing came for one look. Whether that is enough.
+    // Counts a look at which nothing came, and returns whether that is enough.
     fn is_over(&mut self) -> bool {
         if self.seconds == 0 || !self.has_ended.load(Ordering::SeqCst) {
             return false;
@@ -44,8 +45,8 @@ impl Patience {
     }
 }
 
-/// What a connection brings, each read of which waits for a look at most; it is noted that nothing more comes.
-/// A connection that is silent for too long is ended.
+/// The bytes of a connection, each read of which waits for at most one look; the end of the bytes
+/// is noted. A connection that is silent for too long is ended.
 #[derive(Drop)]
 pub(crate) struct Brought<R> {
     pub(crate) reader: R,
@@ -55,7 +56,7 @@ pub(crate) struct Brought<R> {
 }
 
 impl<R> Brought<R> {
-    // A read came to its end.
+    // Notes the result of a read.
     fn note(&mut self, read: &io::Result<usize>)
         ensures { self.new.reader ≡ self.old.reader }
     {
@@ -65,7 +66,7 @@ impl<R> Brought<R> {
         }
     }
 
-    // A look passed, and nothing came.
+    // Counts a look that passed, at which nothing came.
     fn look(&mut self)
         ensures { self.new.reader ≡ self.old.reader }
     {
@@ -92,8 +93,8 @@ impl<R: Read> Read for Brought<R> {
     }
 }
 
-/// Keys of which nothing is known beforehand. Their end is told after so many seconds, or once the connection
-/// brings nothing more. No user asks for anything there.
+/// Keys of which nothing is known beforehand. Their end is reported after this number of seconds,
+/// or once the connection brings nothing more. They carry no requests of a user.
 #[derive(Drop)]
 pub(crate) struct Patient<H, K> {
     pub(crate) rt: H,
@@ -144,7 +145,7 @@ impl<H: Clock + Wait, K: Source> Source for Patient<H, K> {
     }
 }
 
-// No more is read after this.
+// Returns whether no more is read after this.
 fn is_last(read: &io::Result<usize>) -> bool {
     match read {
         Ok(count) => *count == 0,

@@ -1,4 +1,4 @@
-//! How often a user was warned, for contracts.
+//! The number of warnings to a user, for contracts.
 
 ghost use Rattle.std.specs.Prelude.{◌≡◌, ◌+◌};
 ghost use Rattle.tn_connect.specs.Warnings.{count_in};
@@ -6,7 +6,7 @@ ghost use Rattle.tn_connect.specs.Warnings.{count_in};
 use std::mem;
 use std::snapshot::Snapshot;
 
-/// How often a user was warned, as contracts see it. When it runs it is one byte long.
+/// The number of warnings to a user, as contracts see it. At run time it is one byte long.
 #[derive(Drop)]
 pub enum Warnings {
     Empty,
@@ -14,14 +14,14 @@ pub enum Warnings {
 }
 
 impl Warnings {
-    /// Not yet.
+    /// Makes the count of a user who was not warned yet.
     pub(crate) fn new() -> Warnings
         ensures { count_in result ≡ 0 }
     {
         Warnings::Empty
     }
 
-    // Once more.
+    // Returns the count with one more warning.
     fn then(self) -> Warnings
         ensures { count_in result ≡ count_in self + 1 }
     {

@@ -1,12 +1,12 @@
--- What a run of messages ends by: one of them; and which ends are no fault.
+-- The message by which a run ends, and which ends are no fault.
 use Rattle.std.specs.{Prelude.{◌≡◌, ◌⊎◌, List, ◌∷◌, ◌++◌}, List.FoldsTo}
 use Rattle.tn_cores.specs.declared.faults.Ended.{Ended, TheVariants.{HangUp, Done}}
 
--- it ended without a fault
+-- the run ended without a fault
 abbrev pub EndsWhole : Ended → Type 0
 EndsWhole ended = (ended ≡ HangUp) ⊎ (ended ≡ Done)
 
--- at one of these messages, and where the run was when it came: it is why the run ended so
+-- one of these messages, and the state of the run when it came: it is why the run ended so
 pub record IsEndedAt {S M : Type 0} (Steps : S → M → S → Type 0) (EndsBy : S → M → Ended → Type 0) (c : S)
     (all : List M) (ended : Ended) : Type 0 where
   pub before : List M

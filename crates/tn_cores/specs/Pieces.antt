@@ -16,7 +16,7 @@ WantsMemoryWithin stream had piece =
     (front : List ℕ) × (back : List ℕ) × (piece ≡ front ++ back) × (xs : List Item) × (here : DecoderState)
     × nvt.LeadsTo (stream ++ front) (had ++ xs) here × WantsMemory here back
 
--- what was taken is a prefix of what came, and all of it as long as messages have their effect
+-- the part that was taken is a prefix of what came, and all of it as long as messages have their effect
 pub record TakesFront {A : Type 0} (over : Bool) (all taken : List A) : Type 0 where
   pub rest : List A
   pub front : all ≡ taken ++ rest

@@ -1,4 +1,5 @@
-//! The core of a running client session: the machine that alone uses the client end, one message at a time.
+//! The core of a running client session: only this machine uses the client end, one message at a
+//! time.
 //!
 //! ```
 //! let mut core = Core::start(alloc, 80, 24, Limit::standard())?;
@@ -13,8 +14,8 @@
 //!                                                +-----> bytes to the screen
 //! ```
 //!
-//! Once no more keys come it sends nothing more, and still shows what comes. It has no handle and never
-//! blocks: it reads and writes nothing itself, and opens no connection.
+//! Once no more keys come it sends nothing more, and still shows what comes. It has no handle and
+//! never blocks: it reads and writes nothing itself, and opens no connection.
 pub use crate::client::machine::Core;
 pub use crate::client::messages::{ClientMark, Origin, Told};
 pub use crate::client::progress::ClientProgress;

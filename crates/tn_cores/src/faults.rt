@@ -1,4 +1,4 @@
-//! How a session ends.
+//! The end of a session.
 
 ghost use Rattle.std.specs.Prelude.{◌≡◌, true, IsTrue, false, IsFalse};
 ghost use Rattle.tn_cores.specs.{Counting.first_end, Ending.EndsWhole};
@@ -7,7 +7,7 @@ use thiserror::Error;
 use tn_client::ClientFault;
 use tn_server::ServerFault;
 
-/// What failed in a session.
+/// The failure of a session.
 #[derive(Clone, Copy, Debug, PartialEq, Eq, Error)]
 pub enum SessionFault {
     #[error("read")]
@@ -28,7 +28,7 @@ pub enum SessionFault {
     Channel,
 }
 
-/// How a session ended: of the end of the foreground job and the faults, the first.
+/// The end of a session: the first of the end of the foreground job and the faults.
 #[derive(Clone, Copy, Debug, PartialEq, Eq)]
 pub enum Ended {
     /// Neither came.
@@ -40,7 +40,7 @@ pub enum Ended {
 }
 
 impl Ended {
-    /// The first of two ends: this one, unless neither came before the next.
+    /// Returns the first of two ends: this one, unless neither came before the next.
     pub fn or(self, next: Ended) -> Ended
         ensures { result ≡ first_end self next }
     {
@@ -50,7 +50,7 @@ impl Ended {
         }
     }
 
-    /// Whether it is no fault.
+    /// Returns whether the end is no fault.
     pub fn is_whole(self) -> bool
         ensures whole { IsTrue result → EndsWhole self }
         ensures faulted { IsFalse result → ¬ EndsWhole self }

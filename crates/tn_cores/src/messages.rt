@@ -1,4 +1,4 @@
-//! What a machine of a session is told.
+//! The messages to a machine of a session.
 
 use crate::streams::{Control, WindowSize};
 use tn_discipline::Text;
@@ -21,7 +21,7 @@ pub enum Message {
         text: Text,
         after: After,
     },
-    /// The window in which a client's keys are typed has this size now.
+    /// The window in which a client's keys are typed has got this size.
     Resized(WindowSize),
     /// The user of a client asks for this control function.
     Asked(Control),

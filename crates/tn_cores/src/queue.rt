@@ -1,5 +1,7 @@
-//! A channel in which one puts and one takes, under a rule: what was taken, and then what the channel holds,
-//! is what was put.
+//! A channel into which one side puts and from which one side takes, under a rule: the entries that
+//! were taken, and then those that the channel holds, are those that were put.
+//!
+//! Begin with `Hand`, which lists the entries of one side, and `InTurn`, the rule.
 //!
 //! ```
 //! let (to, from, mut pass) = bounded_with::<T, Hand<T>, InTurn, Global>(alloc, 2)?;
@@ -7,7 +9,8 @@
 //! to.send_as::<Puts, R>(&rt, &mut pass, message)?;
 //! ```
 //!
-//! A pass knows the list of its role. Once both are joined, the rule tells what is left in the channel.
+//! A pass has the list of its role. Once both are joined, the rule gives what is left in the
+//! channel.
 
 ghost use Rattle.std.specs.Prelude.{◌≡◌, Option, None};
 ghost use Rattle.tn_cores.specs.queue.Queue.{InOrder, LeftOver, both_hands, joined_hands, no_hand, put_more};
@@ -17,7 +20,8 @@ use crossbeam_channel::protocol::{Join, Lesson, Outcome, Protocol, Split};
 use crossbeam_channel::{Pass, RuledReceiver, RuledSender};
 use std::collections::LinkedList;
 
-/// What a pass has put and taken; none of it where that is another's. No value of it is made.
+/// The entries that a pass has put and taken; none of a role that is another pass's. No value of it
+/// is made.
 pub struct Hand<T> {
     pub put: Option<LinkedList<T>>,
     pub taken: Option<LinkedList<T>>,
@@ -63,7 +67,7 @@ impl<T> Split<Hand<T>> for CutTaker {
     ghost right = { λ v. record no_hand { taken = v.taken } };
 }
 
-/// Both roles are joined.
+/// The rule by which both roles are joined.
 pub struct JoinHands;
 
 impl<T> Join<Hand<T>> for JoinHands {

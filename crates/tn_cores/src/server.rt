@@ -1,4 +1,4 @@
-//! The terminal of a running session: the machine that alone uses the server end, one message at a time.
+//! The terminal of a running session: only this machine uses the server end, one message at a time.
 //!
 //! ```
 //! let mut term = Term::start(alloc, settings, limit, Editing::Remote, jobs, &mut out)?;
@@ -17,9 +17,9 @@
 //!                                                    +-----> entries to the foreground job
 //! ```
 //!
-//! It moves the jobs of its table, counts what was done, and knows how the session ends. It has no handle
-//! and never blocks: it reads and writes nothing itself, runs no job, and does not hold back a reader, but
-//! says by `is_welcoming` when to.
+//! It moves the jobs of its table, counts what was done, and keeps how the session ends. It has no
+//! handle and never blocks: it reads and writes nothing itself, runs no job, and does not hold back
+//! a reader, but reports by `is_welcoming` when to.
 pub use crate::server::messages::{MessageOutcome, Put, ServerMark};
 pub use crate::server::progress::ServerProgress;
 pub use crate::server::terminal::{MAX_PIECE, Term};

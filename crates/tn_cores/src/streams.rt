@@ -1,9 +1,11 @@
-//! Readers and writers that may tell how many of their calls failed, or will fail.
+//! Readers and writers that may report how many of their calls failed, or will fail.
+//!
+//! Begin with `Source`, a reader, and `Drain`, a writer.
 //!
 //! ```
 //! let answer = reader.read_some(&mut buf); // of any reader of the standard library
 //! let tally = Tally::new().after_read(&answer);
-//! tally.failed(); // 1 where the call failed, and no signal interrupted it
+//! tally.failed(); // 1 if the call failed, and no signal interrupted it
 //! ```
 //!
 //! ```text
@@ -13,8 +15,8 @@
 //!               +-------> in contracts: what they gave or hold, and how many calls failed or will
 //! ```
 //!
-//! Every reader and writer of the standard library is one that tells nothing. It opens nothing, holds nothing
-//! back, and calls nothing again: `is_interrupted` says when to.
+//! Every reader and writer of the standard library is one that reports nothing. The crate opens
+//! nothing, holds nothing back, and calls nothing again: `is_interrupted` reports when to.
 
 ghost use Rattle.std.specs.Prelude.{◌≡◌, ◌≢◌, ℕ, List, [], None, Some, Option, true, IsTrue, false, IsFalse};
 ghost use Rattle.std.specs.{IoError.error_kind, Io.{ReadsAtMost, WritesAtMost}};
@@ -37,29 +39,32 @@ mod tally;
 mod window;
 mod writing;
 
-/// A reader that may tell how many of its calls failed, and foretell how many will: one that is given away
-/// can't be asked afterwards. Where its bytes are typed in a window, it tells the window's size too, and the
-/// control functions that its user asks for between them. Whoever reads it may say its last words for it.
+/// A reader that may report how many of its calls failed, and foretell how many will: one that is
+/// given away cannot be asked afterwards. If its bytes are typed in a window, it reports the
+/// window's size too, and the control functions that its user requests between them. The thread
+/// that reads it may send its last words for it.
 pub trait Source {
-    // The bytes that reads will give from here on, where they are known.
+    // The bytes that reads will give from this state on, if they are known.
     ghost remaining: { Self → Option (List ℕ) } = { λ _. None };
 
-    // What it tells of its calls.
+    // The known facts of its calls.
     ghost told: { Self → Option Calls } = { λ _. None };
 
-    // What it foretells of the calls from here on.
+    // The facts that it foretells of the calls to come.
     ghost foretold: { Self → Option Failures } = { λ _. None };
 
-    // The sizes that it will tell from here on, where they are known. Most readers have no window.
+    // The sizes that it will report from this state on, if they are known. Most readers have no
+    // window.
     ghost sizes: { Self → Option (List WindowSizeT) } = { λ _. Some [] };
 
-    // The control functions that it will tell from here on, where they are known. Most readers have no user.
+    // The control functions that it will report from this state on, if they are known. Most readers
+    // have no user.
     ghost controls: { Self → Option (List ControlT) } = { λ _. Some [] };
 
-    // What its last words may be, of which each is known beforehand. Most readers have none.
+    // The last words that it may have, each of which is known beforehand. Most readers have none.
     ghost words: { Self → List (List ℕ) } = { λ _. no_words };
 
-    /// The size of the window, if it is another than the one that was told last.
+    /// Returns the size of the window, if it differs from the one that was reported last.
     fn resized(&mut self) -> Option<WindowSize>
         ensures tells { TellsNext (sizes self.old) result (sizes self.new) }
         ensures bytes { remaining self.new ≡ remaining self.old }
@@ -71,8 +76,8 @@ pub trait Source {
         None
     }
 
-    /// The control function that is asked for right behind the bytes that were given, if there is one that
-    /// was not told.
+    /// Returns the control function that is requested right after the bytes that were given, if
+    /// there is one that was not reported.
     fn control(&mut self) -> Option<Control>
         ensures tells { TellsNext (controls self.old) result (controls self.new) }
         ensures bytes { remaining self.new ≡ remaining self.old }
@@ -84,11 +89,11 @@ pub trait Source {
         None
     }
 
-    /// What is to be said to its peer once it has come to its end: a line, or nothing.
+    /// Returns the text for its peer once it has come to its end: a line, or nothing.
     fn last_words(&self) -> &'static [u8]
         ensures one { IsOneOf (words self.now) result.now };
 
-    /// Reads some bytes, none only at the end or where there is no room.
+    /// Reads some bytes, none only at the end or if there is no room.
     fn read_some(&mut self, buf: &mut [u8]) -> Result<usize>
         ensures bound { ReadsAtMost result buf.new }
         ensures bytes { ReadConsumes (remaining self.old) (remaining self.new) result buf.new }
@@ -99,15 +104,15 @@ pub trait Source {
         ensures words { words self.new ≡ words self.old };
 }
 
-/// A writer that may tell how many of its calls failed.
+/// A writer that may report how many of its calls failed.
 pub trait Drain {
-    // The bytes that the writer holds, where they are known.
+    // The bytes that the writer holds, if they are known.
     ghost contents: { Self → Option (List ℕ) } = { λ _. None };
 
-    // What it tells of its calls.
+    // The known facts of its calls.
     ghost told: { Self → Option Calls } = { λ _. None };
 
-    // Whether more may come, where that is told.
+    // Whether more may come, if that is known.
     ghost sending: { Self → Option Sending } = { λ _. None };
 
     /// Writes the first of the bytes.
@@ -118,8 +123,9 @@ pub trait Drain {
         ensures goes { sending self.new ≡ written_on (sending self.old) };
 }
 
-/// A writer that is told when no more comes from this end. Nothing is said of what that does, but that no
-/// call of the writer is counted for it, and that a write after it may be told from one before.
+/// A writer that is finished when no more comes from this end. Of that call contracts know only
+/// that it is not counted among the writer's calls, and that a write after it differs from one
+/// before.
 pub trait Finish: Drain {
     fn finish(&mut self)
         ensures contents { Keeps (Self.contents self.old) (Self.contents self.new) }
@@ -152,14 +158,14 @@ impl<W: Write> Drain for W {
     }
 }
 
-/// What a reader says that has no last words.
+/// Returns the last words of a reader that has none.
 pub fn nothing_to_say() -> &'static [u8]
     ensures { IsOneOf no_words result.now }
 {
     b""
 }
 
-/// Whether a signal interrupted the call, so that it is to be made again.
+/// Returns whether a signal interrupted the call, so that it is to be made again.
 pub fn is_interrupted(error: &Error) -> bool
     ensures again { IsTrue result → error_kind error.now ≡ ErrorKind.Interrupted }
     ensures failed { IsFalse result → error_kind error.now ≢ ErrorKind.Interrupted }

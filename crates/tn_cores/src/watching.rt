@@ -1,7 +1,8 @@
-//! Who watches the threads of a session.
+//! The watcher of a session's threads.
 //!
-//! The trait has methods with bodies, and the crate that starts the threads asks whether a gate may cross
-//! them. Where both are one crate, what its check begins with takes twice as long.
+//! The trait has methods with bodies, and the crate that starts the threads asks whether a gate may
+//! cross them. If both were one crate, the modules with which its check begins would take twice as
+//! long.
 
 use crate::client::{Origin, Terms};
 use crate::streams::WindowSize;
@@ -18,13 +19,13 @@ pub enum Place {
     DeskEntry,
     /// A background job is to make a step.
     BackStep,
-    /// The terminal has handled what this job said.
+    /// The terminal has handled the text of this job.
     TermSaid(JobId),
     /// The terminal has put an entry for the foreground job.
     TermTook,
 }
 
-/// How far a server's session is with what its user typed.
+/// The progress of a server's session with the keys of its user.
 #[derive(Clone, Copy)]
 pub struct Typed {
     /// The pieces that had their effect.
@@ -35,25 +36,28 @@ pub struct Typed {
     pub is_interrupted: bool,
 }
 
-/// Who watches the threads. It changes no answer.
+/// A watcher of the threads. It changes no answer.
 pub trait Gate {
-    /// A thread comes by this place.
+    /// Takes the report that a thread comes by this place.
     fn at(&self, place: Place);
 
-    /// A server's terminal has handled a message, and is so far with what was typed.
+    /// Takes the report that a server's terminal has handled a message, and how far it is with the
+    /// typed keys.
     fn typed(&self, _typed: Typed) {}
 
-    /// A server's terminal has handled a message, and the client's window has this size from then on. What the
-    /// message gives to the foreground job goes there afterwards.
+    /// Takes the report that a server's terminal has handled a message, after which the client's
+    /// window has this size. The entry that the message gives to the foreground job goes there
+    /// afterwards.
     fn resized(&self, _size: WindowSize) {}
 
-    /// A client's core handles a message of this sender next. The session shows nothing else until it has shown
-    /// what the message made.
+    /// Takes the report that a client's core handles a message of this sender next. The session
+    /// shows nothing else until it has shown what the message made.
     fn handles(&self, _from: Origin) {}
 
-    /// A client's core has handled a message, and these are its terms now.
+    /// Takes the terms of a client's core, which has handled a message.
     fn agreed(&self, _terms: Terms) {}
 
-    /// Nothing has any effect on a client's core any more: who waits for its user need not wait on.
+    /// Takes the report that nothing has any effect on a client's core any more: a thread that
+    /// waits for its user need not wait on.
     fn over(&self) {}
 }

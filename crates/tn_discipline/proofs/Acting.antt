@@ -1,4 +1,4 @@
--- What the calls on a line do, by what each role does.
+-- The effects of the calls on a line, by the effect of each role.
 use Rattle.std.proofs.Common.{◌≡◌, ◌<◌, ℕ, Result, Ok, Err, IfOk, OnOk, List, [], ◌∷◌, length, refl, ap, ◌∙◌, arith}
 use Rattle.tn_discipline.specs.{declared.{keys.Role.Role, half_line.Effect.Effect}, Entries.line_of, Keys.roles_from}
 use Rattle.tn_discipline.specs.HalfLine.{HalfLine, empty_line, line_released, line_resumed, effect_of, line_after, effect_entries, GivesText}
@@ -8,7 +8,7 @@ use Rattle.tn_discipline.specs.declared.reads.Entry.TheVariants as entry
 use Rattle.tn_discipline.specs.declared.half_line.Effect.TheVariants as effect
 use Rattle.tn_discipline.proofs.lemmas.Lines.{advances, advances_erase, drops_exactly, released_keeps, resumed_leads}
 
--- the same of an effect and a line that are known to be those
+-- an effect and a line that are known to be those of a role advance so
 pub advances_to : (old new : HalfLine) (r : Role) (e : Effect) → e ≡ effect_of old r → new ≡ line_after old r
     → Advances old (roles_from r) (effect_entries e) new
 advances_to old new r e is leaves = rw (is, leaves) (advances old r)
@@ -37,7 +37,7 @@ line_of-text (byte ∷ bytes) h = refl
 pub gives_text : (old : HalfLine) (r : Role) (bytes : List ℕ) → effect_of old r ≡ effect.Gives (line_of bytes) → 0 < length bytes → GivesText old r
 gives_text old r bytes gives some = (bytes, gives ∙ ap effect.Gives (line_of-text bytes some))
 
--- the same of a call that may have been refused
+-- a call that may have been refused advances so, if it is Ok
 pub advances_or : {E : Type 0} (r : Result Effect E) (old new : HalfLine) (role : Role) → IfOk r (λ e. e ≡ effect_of old role)
     → OnOk r (new ≡ line_after old role) → IfOk r (λ e. Advances old (roles_from role) (effect_entries e) new)
 advances_or (Ok e) old new role is leaves = advances_to old new role e is leaves

@@ -6,7 +6,7 @@ use Rattle.tn_discipline.specs.Characters.{Characters, slot, with_slot, special_
 use Rattle.tn_discipline.specs.{Characters.{char_fault, AreAllowed}, declared.characters.CharFault.{CharFault, TheVariants.{NotSettable, Reserved, Taken}}}
 use Rattle.tn_discipline.proofs.lemmas.Functions.{set_to, is_set, settable_of_slot, finds, found, untaken, held_by}
 
--- what is found is the one function whose character the byte is
+-- the function that is found is the one whose character the byte is
 pub found_exactly : (c : Characters) (byte : ℕ) (o : Option Func) → AreAllowed c → o ≡ find (λ f. is_set_to (slot c f) byte) special_functions → (g : Func)
     → (o ≡ Some g) ↔ (slot c g ≡ Some byte)
 found_exactly c byte o allowed is g = (

@@ -1,5 +1,5 @@
 -- The keys that a line has room for (MAX_CANON; XBD 11.1.6). The limit is how many bytes a line has at most,
--- with its closing byte; the count is how many bytes the half line has.
+-- with its closing byte; the count is how many bytes the half-typed line has.
 use Rattle.std.specs.Prelude.{ℕ, ◌+◌, ◌-◌, Bool, false, ◌==◌, List, [], ◌∷◌, if◌then◌else◌}
 use Rattle.tn_discipline.specs.{Limits.max_counted, declared.keys.Role.Role}
 use Rattle.tn_discipline.specs.declared.keys.Role.TheVariants as role
@@ -17,14 +17,14 @@ next_count count (role.Signal sig) = count
 next_count count role.Ignored = count
 next_count count _ = 0
 
--- the admitted keys, where the count before them is this
+-- the admitted keys, if the count before them is this
 abbrev pub admitted_after : ℕ → ℕ → List Role → List Role
 admitted_after limit count [] = []
 admitted_after limit count (r ∷ roles) =
     if is_dropped limit count r then admitted_after limit count roles
     else r ∷ admitted_after limit (next_count count r) roles
 
--- the count that these keys leave, where the count before them is this
+-- the count that these keys leave, if the count before them is this
 abbrev pub count_after : ℕ → ℕ → List Role → ℕ
 count_after limit count [] = count
 count_after limit count (r ∷ roles) =

@@ -18,7 +18,7 @@ pub record Characters : Type 0 where
   pub eol : Option ℕ
   pub eol2 : Option ℕ
 
--- the character of a function; none where the function has no special character
+-- the character of a function; none if the function has no special character
 abbrev pub slot : Characters → Func → Option ℕ
 slot c func.Ip = c.intr
 slot c func.Abort = c.quit
@@ -61,7 +61,7 @@ abbrev pub special_functions : List Func
 special_functions =
     func.Ip ∷ func.Abort ∷ func.Eof ∷ func.Susp ∷ func.Ec ∷ func.El ∷ func.Forw1 ∷ func.Forw2 ∷ []
 
--- the same function
+-- the two functions are equal
 abbrev pub is_same : Func → Func → Bool
 is_same f g = func_code f == func_code g
 
@@ -82,13 +82,13 @@ is_set_to (Some character) byte = character == byte
 abbrev pub is_taken : Characters → Func → ℕ → Bool
 is_taken c f byte = list_any (λ g. not (is_same g f) && is_set_to (slot c g) byte) special_functions
 
--- why a settable character can't have this value; it can always be disabled
+-- why a settable character cannot have this value; it can always be disabled
 abbrev pub value_fault : Characters → Func → Option ℕ → Option CharFault
 value_fault c f None = None
 value_fault c f (Some byte) =
     if is_reserved byte then Some Reserved else (if is_taken c f byte then Some Taken else None)
 
--- why the character of a function can't be changed to this value
+-- why the character of a function cannot be changed to this value
 abbrev pub char_fault : Characters → Func → Option ℕ → Option CharFault
 char_fault c f value = if is_settable f then value_fault c f value else Some NotSettable
 

@@ -1,4 +1,4 @@
--- What a terminal shows of a key (XBD 11.2.5: ECHO, ECHOE, ECHOK, ECHONL).
+-- The symbols that a terminal shows of a key (XBD 11.2.5: ECHO, ECHOE, ECHOK, ECHONL).
 use Rattle.std.specs.Prelude.{ℕ, Bool, true, false, ◌&&◌, ◌||◌, Option, Some, None, List, [], ◌∷◌}
 use Rattle.std.specs.Prelude.{if◌then◌else◌}
 use Rattle.tn_discipline.specs.declared.{termios.Flags.Flags, keys.Role.Role, half_line.Effect.Effect}
@@ -10,7 +10,7 @@ use Rattle.tn_discipline.specs.declared.half_line.Effect.TheVariants as effect
 abbrev pub no_echo : List (Option Symbol)
 no_echo = None ∷ None ∷ None ∷ []
 
--- one symbol is shown, where the flags say so
+-- one symbol is shown if the flags say so
 abbrev pub one_shown : Bool → Symbol → List (Option Symbol)
 one_shown shown symbol = if shown then Some symbol ∷ None ∷ None ∷ [] else no_echo
 
@@ -29,7 +29,7 @@ is_erased _ = false
 abbrev pub wiping_symbols : List (Option Symbol)
 wiping_symbols = Some (Byte 8) ∷ Some (Byte 32) ∷ Some (Byte 8) ∷ []
 
--- what is shown of a key of this role that had this effect
+-- the symbols that are shown of a key of this role that had this effect
 abbrev pub echo_at : Flags → Role → Effect → List (Option Symbol)
 echo_at flags (role.Ordinary byte) e = one_shown flags.echo (ordinary_shown byte e)
 echo_at flags role.Nl e = one_shown (flags.echo || flags.echonl) Newline

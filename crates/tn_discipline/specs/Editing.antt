@@ -27,7 +27,7 @@ IsClosing (role.Eol2 byte) = Unit {0}
 IsClosing role.Eof = Unit {0}
 IsClosing _ = ⊥
 
--- these bytes, and then one more where there is one
+-- these bytes, and then one more if there is one
 abbrev pub with_byte : List ℕ → Option ℕ → List ℕ
 with_byte bytes None = bytes
 with_byte bytes (Some byte) = bytes ++ byte ∷ []

@@ -1,4 +1,4 @@
--- The half line in two parts: what was handed on, and what is held.
+-- The half-typed line in two parts: what was handed on, and what is held.
 use Rattle.std.specs.Prelude.{◌≡◌, ℕ, ◌+◌, ◌-◌, ◌==◌, nat_lt, Bool, List, [], ◌∷◌, ◌++◌, length}
 use Rattle.std.specs.Prelude.{if◌then◌else◌}
 use Rattle.tn_discipline.specs.{Entries.line_of, Limits.max_counted, Steps.front, declared.keys.Role.Role}
@@ -18,19 +18,23 @@ pub record HalfLine : Type 0 where
 abbrev pub empty_line : ℕ → HalfLine
 empty_line limit = record { held = []; ahead = 0; limit = limit }
 
+-- the number of bytes of a half-typed line, ahead or held
 abbrev pub line_length : HalfLine → ℕ
 line_length line = line.ahead + length line.held
 
+-- the line has no room for one more byte before its closing one
 abbrev pub is_full : HalfLine → Bool
 is_full line = line_length line == max_counted line.limit
 
+-- some byte is held
 abbrev pub has_held : HalfLine → Bool
 has_held line = nat_lt 0 (length line.held)
 
+-- some byte is ahead
 abbrev pub has_ahead : HalfLine → Bool
 has_ahead line = nat_lt 0 line.ahead
 
--- what a key of this role does
+-- the effect of a key of this role
 abbrev pub effect_of : HalfLine → Role → Effect
 effect_of line role.Ignored = effect.Nothing
 effect_of line (role.Ordinary byte) = if is_full line then effect.Dropped else effect.Kept
@@ -57,11 +61,11 @@ line_erased line =
 abbrev pub line_released : HalfLine → HalfLine
 line_released line = record line { held = []; ahead = line_length line }
 
--- a line of which so many bytes were handed on, and none is held
+-- a line of which this number of bytes was handed on, and none is held
 abbrev pub line_resumed : ℕ → ℕ → HalfLine
 line_resumed limit ahead = record { held = []; ahead = ahead; limit = limit }
 
--- what a key of this role leaves: KILL and the keys that close the line leave nothing of it
+-- the line after a key of this role: KILL and the keys that close the line leave nothing of it
 abbrev pub line_after : HalfLine → Role → HalfLine
 line_after line role.Ignored = line
 line_after line (role.Ordinary byte) = line_kept line byte

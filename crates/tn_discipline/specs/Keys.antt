@@ -1,4 +1,4 @@
--- What the typed bytes are to the line discipline.
+-- The roles of typed bytes in the line discipline.
 use Rattle.std.specs.Prelude.{ℕ, Bool, true, false, ◌&&◌, ◌==◌, Option, Some, None, List, [], ◌∷◌, map}
 use Rattle.std.specs.{Prelude.if◌then◌else◌, List.filter_map}
 use Rattle.tn_discipline.specs.{Characters.{Characters, is_set_to}, declared.reads.Sig.Sig}
@@ -64,11 +64,12 @@ role_of_mapped settings byte =
 abbrev pub roles_of : Settings → List ℕ → List Role
 roles_of settings keys = map (role_of_mapped settings) (mapped_keys settings.flags keys)
 
+-- the role of a mapped byte; Ignored if the mapping dropped it
 abbrev pub role_or_ignored : Settings → Option ℕ → Role
 role_or_ignored settings None = Ignored
 role_or_ignored settings (Some byte) = role_of_mapped settings byte
 
--- the role of one typed byte; Ignored where it is dropped
+-- the role of one typed byte; Ignored if it is dropped
 abbrev pub role_of_key : Settings → ℕ → Role
 role_of_key settings key = role_or_ignored settings (mapped_key settings.flags key)
 

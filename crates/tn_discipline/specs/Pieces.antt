@@ -4,8 +4,8 @@ use Rattle.std.specs.Prelude.{ℕ, Option, Some, None, List, [], ◌∷◌}
 use Rattle.tn_discipline.specs.declared.keys.Role.{Role}
 use Rattle.tn_discipline.specs.declared.keys.Role.TheVariants as role
 
--- the bytes that a key closes a line with: NL a line feed, EOL and EOL2 their own byte, EOF none.
--- Other keys don't close
+-- the bytes that a key closes a line with: NL a line feed, EOL and EOL2 their own byte, EOF none. Other keys
+-- do not close
 abbrev pub closing_bytes : Role → Option (List ℕ)
 closing_bytes role.Nl = Some (10 ∷ [])
 closing_bytes (role.Eol byte) = Some (byte ∷ [])
@@ -29,7 +29,7 @@ put_first r [] last = record { closed = []; last = r ∷ last }
 put_first r (p ∷ ps) last =
     record { closed = record { keys = r ∷ p.keys; closing = p.closing } ∷ ps; last = last }
 
--- these pieces with one more key before them, which is a piece of its own where it closes
+-- these pieces with one more key before them, which is a piece of its own if it closes
 abbrev pub cut_before : Option (List ℕ) → Role → Pieces → Pieces
 cut_before None r pieces = put_first r pieces.closed pieces.last
 cut_before (Some bytes) r pieces =

@@ -14,7 +14,7 @@ abbrev pub gains_from : HalfLine → List Role → List Entry
 gains_from line [] = []
 gains_from line (r ∷ roles) = effect_entries (effect_of line r) ++ gains_from (line_after line r) roles
 
--- the role of each typed byte; Ignored where it is dropped
+-- the role of each typed byte; Ignored if it is dropped
 abbrev pub each_role : Settings → List ℕ → List Role
 each_role settings keys = map (role_of_key settings) keys
 

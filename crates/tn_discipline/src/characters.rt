@@ -12,7 +12,7 @@ use tn_codes::Func;
 
 /// Passes the special characters to a macro, in rising number of their functions, after the
 /// arguments: each as its function, the terminal's name for it, the command that stands for it in a
-/// stream, where one does, and its standard value.
+/// stream, if there is one, and its standard value.
 #[macro_export]
 macro_rules! special_characters {
     ($callback:ident $(, $argument:expr)*) => {
@@ -64,7 +64,7 @@ macro_rules! functions {
 /// The functions that have a special character, in rising number.
 pub const SPECIAL: [Func; 8] = special_characters!(functions);
 
-/// Why a special character was not changed.
+/// The reason why a special character was not changed.
 #[derive(Clone, Copy, Debug, PartialEq, Eq, Error)]
 pub enum CharFault {
     #[error("the function has no special character")]
@@ -127,7 +127,8 @@ impl Model for Chars {
     } };
 }
 
-/// Whether no special character may be this byte: a line feed, a carriage return and 255, which is IAC.
+/// Returns whether no special character may be this byte: a line feed (10), a carriage return (13)
+/// or 255, which is IAC.
 pub fn is_reserved(byte: u8) -> bool
     ensures { result ≡ is_reserved byte }
 {
@@ -135,8 +136,8 @@ pub fn is_reserved(byte: u8) -> bool
 }
 
 impl Chars {
-    /// The characters of a new terminal: the bytes 3, 28, 4, 26, 127 and 21, and no
-    /// EOL or EOL2. POSIX.1-2017, XBD 11.1.9 names no values.
+    /// Makes the characters of a new terminal: the bytes 3, 28, 4, 26, 127 and 21, and no EOL or
+    /// EOL2. POSIX.1-2017, XBD 11.1.9 names no values.
     pub fn standard() -> Self
         ensures value { result ≡ standard_characters }
         ensures allowed { AreAllowed result }
@@ -144,7 +145,7 @@ impl Chars {
         special_characters!(standard_values)
     }
 
-    /// The character of a function; `None` where it is disabled, and of a function that has none.
+    /// Returns the character of a function; `None` if it is disabled, or the function has none.
     pub fn get(&self, func: Func) -> Option<u8>
         ensures value { result ≡ slot self.now func }
         ensures allowed { AreAllowed self.now }
@@ -152,7 +153,7 @@ impl Chars {
         special_characters!(value_of, self, func)
     }
 
-    /// The function whose character the byte is.
+    /// Returns the function whose character the byte is.
     pub fn holder(&self, byte: u8) -> Option<Func>
         ensures found { (func : Func) → (result ≡ Some func) ↔ (slot self.now func ≡ Some byte) }
         ensures allowed { AreAllowed self.now }
@@ -161,7 +162,7 @@ impl Chars {
         self.first_with(byte)
     }
 
-    /// Why `set` would refuse this value.
+    /// Returns the reason why `set` would refuse this value, or `None` if it would not.
     pub fn refusal(&self, func: Func, value: Option<u8>) -> Option<CharFault>
         ensures fault { result ≡ char_fault self.now func value }
         ensures allowed { AreAllowed self.now }
@@ -180,9 +181,15 @@ impl Chars {
         None
     }
 
-    /// Changes the character of a function, or disables it by `None`. It is refused as `refusal` says, and
-    /// changes nothing then: a function has no special character, a line feed (10), a carriage return
-    /// (13) and 255 are never special, and a byte is the character of one function alone.
+    /// Changes the character of a function, or disables it by `None`.
+    ///
+    /// # Errors
+    ///
+    /// `refusal` returns the same fault beforehand. After an error nothing has changed.
+    ///
+    /// - `NotSettable`: the function has no special character.
+    /// - `Reserved`: the byte is a line feed (10), a carriage return (13) or 255.
+    /// - `Taken`: the byte is the character of another function.
     pub fn set(&mut self, func: Func, value: Option<u8>) -> Result<(), CharFault>
         ensures accepted { OnOk result (char_fault self.old func value ≡ None) }
         ensures ok { OnOk result (self.new ≡ with_slot self.old func value) }
@@ -206,21 +213,21 @@ impl Chars {
         special_characters!(put_value, self, func, value)
     }
 
-    // The first function whose character the byte is.
+    // Returns the first function whose character the byte is.
     fn first_with(&self, byte: u8) -> Option<Func>
         ensures { result ≡ find (λ func. is_set_to (slot self.now func) byte) special_functions }
     {
         SPECIAL.iter().copied().find(|func| self.has(*func, byte))
     }
 
-    // The byte is the character of another function.
+    // Returns whether the byte is the character of another function.
     fn is_taken(&self, func: Func, byte: u8) -> bool
         ensures { result ≡ is_taken self.now func byte }
     {
         SPECIAL.iter().any(|other| other.code() != func.code() && self.has(*other, byte))
     }
 
-    // The byte is the character of the function.
+    // Returns whether the byte is the character of the function.
     pub(crate) fn has(&self, func: Func, byte: u8) -> bool
         ensures { result ≡ is_set_to (slot self.now func) byte }
     {

@@ -1,4 +1,4 @@
-//! What a terminal shows of what is typed.
+//! The echo: the symbols that a terminal shows for typed keys.
 
 ghost use Rattle.std.specs.Prelude.{◌≡◌};
 ghost use Rattle.tn_discipline.specs.{Echo.{echo_at, one_shown}, Keys.role_of_key};
@@ -7,14 +7,14 @@ use crate::half_line::Effect;
 use crate::keys::{Role, role_of};
 use crate::termios::{Flags, Settings};
 
-/// What a terminal shows: a byte, or a new line.
+/// A symbol that a terminal shows: a byte, or a new line.
 #[derive(Clone, Copy, PartialEq, Eq)]
 pub enum Symbol {
     Byte(u8),
     Newline,
 }
 
-/// What is shown of a byte that the line has no room for.
+/// BEL, which is shown for a byte that the line has no room for.
 pub const BELL: u8 = 7;
 
 const BACKSPACE: u8 = 8;
@@ -27,15 +27,16 @@ fn one_if(shown: bool, symbol: Symbol) -> [Option<Symbol>; 3]
     [shown.then_some(symbol), None, None]
 }
 
-/// What a terminal shows of a key that had this effect (XBD 11.2.5), in order; the places that are
-/// not needed are the last ones.
+/// Returns the symbols that a terminal shows of a key that had this effect, in order (XBD 11.2.5).
+/// The places that are not needed are the last ones.
 pub fn echo_of(effect: &Effect, key: u8, settings: &Settings) -> [Option<Symbol>; 3]
     ensures { result ≡ echo_at settings.now.flags (role_of_key settings.now key) effect.now }
 {
     echo_of_role(effect, role_of(settings, key), &settings.flags)
 }
 
-/// The same of a key whose role was looked up.
+/// Returns the symbols that a terminal shows of a key of this role that had this effect, in order
+/// (XBD 11.2.5). It is `echo_of` for a role that was looked up before.
 pub fn echo_of_role(effect: &Effect, role: Role, flags: &Flags) -> [Option<Symbol>; 3]
     ensures { result ≡ echo_at flags.now role effect.now }
 {

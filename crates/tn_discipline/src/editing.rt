@@ -9,7 +9,8 @@ ghost use Rattle.tn_discipline.specs.declared.keys.Role.TheVariants as role;
 use crate::keys::Role;
 use crate::role_table::Roles;
 
-/// The parts of a line, apart from it: a loop that owns them has them at hand, and not in memory.
+/// The parts of a line, apart from it: a loop that owns them keeps them in registers, and not in
+/// memory.
 #[derive(Drop)]
 pub(crate) struct Parts {
     pub(crate) held: Vec<u8>,
@@ -47,7 +48,7 @@ pub(crate) fn edit_front(parts: Parts, roles: &Roles, keys: &[u8]) -> (Parts, us
     (parts, count)
 }
 
-// What a key of this role does, which makes no entry.
+// Applies a key of this role, which makes no entry.
 fn edit(parts: &mut Parts, role: Role)
     requires quiet { IsFalse (gives_entry role) }
     requires room { parts.old.limit ≤ vec_capacity parts.old.held }

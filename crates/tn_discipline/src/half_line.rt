@@ -1,4 +1,4 @@
-//! The half line that is being typed.
+//! The half-typed line.
 
 ghost use Rattle.std.specs.Prelude.{◌≡◌, ◌==◌, ◌<◌, ◌≤◌, ◌+◌, ◌-◌, IsTrue, [], ◌∷◌, ◌++◌, All, length, take};
 ghost use Rattle.std.specs.Prelude.{get_or, min, IfOk, OnOk, OnErr, vec_len, vec_capacity};
@@ -22,13 +22,14 @@ use std::alloc::{AllocError, Global};
 use std::marker::Model;
 use std::mem;
 
-/// From how many on bytes that join the line as they are are copied, and not typed one after another.
+/// The least length of a run of bytes that join the line as they are at which it is copied, and not
+/// typed byte by byte.
 const LONG_RUN: usize = 16;
 
-/// How many keys are typed one after another before a long run is looked for again.
+/// The number of keys that are typed one after another before a long run is looked for again.
 const EDITED_KEYS: usize = 64;
 
-/// What a key did to the line.
+/// The effect of a key on the line.
 #[derive(Debug, PartialEq, Eq, Drop)]
 pub enum Effect {
     /// The key was dropped by its mapping, or there was nothing to erase.
@@ -37,9 +38,10 @@ pub enum Effect {
     Kept,
     /// The last byte that was held is given up.
     Erased,
-    /// Nothing was held, and the last of the bytes that were handed on is to be given up.
+    /// Nothing was held, and the last of the bytes that were handed on is to be taken back.
     ErasedAhead,
-    /// All bytes that were held are given up, and so many that were handed on are to be.
+    /// All bytes that were held are given up, and this number of bytes that were handed on is to be
+    /// taken back.
     Killed(u16),
     /// The line has no room for the byte.
     Dropped,
@@ -47,8 +49,8 @@ pub enum Effect {
     Gives(Entry),
 }
 
-/// The half line that is being typed: the bytes that are held, after those that were handed on to
-/// whoever edits the line with us.
+/// A half-typed line: the bytes that are held, after those that were handed on to the other editor
+/// of the line.
 #[derive(Drop)]
 pub struct Line {
     held: Vec<u8>,
@@ -68,7 +70,11 @@ impl Model for Line {
 }
 
 impl Line {
-    /// An empty line. It makes the room for a whole line once.
+    /// Makes an empty line, with room for a whole line, which it takes once.
+    ///
+    /// # Errors
+    ///
+    /// - `AllocError`: there is no memory for `limit` bytes.
     pub fn new(alloc: Global, limit: Limit) -> Result<Self, AllocError>
         ensures { IfOk result (λ line. line ≡ empty_line limit) }
     {
@@ -79,7 +85,7 @@ impl Line {
         })
     }
 
-    /// The bytes that are held.
+    /// Returns the bytes that are held.
     pub fn held(&self) -> &[u8]
         ensures value { result.now ≡ self.now.held }
         ensures within { line_length self.now < self.now.limit }
@@ -87,7 +93,8 @@ impl Line {
         self.held.as_slice()
     }
 
-    /// How many bytes of the half line were handed on before those that are held.
+    /// Returns the number of bytes of the half-typed line that were handed on before those that are
+    /// held: 0 to 4,094.
     pub fn ahead(&self) -> u16
         ensures value { result ≡ self.now.ahead }
         ensures within { line_length self.now < self.now.limit }
@@ -95,28 +102,32 @@ impl Line {
         self.ahead
     }
 
-    /// How many bytes the half line has, handed on or held.
+    /// Returns the number of bytes of the half-typed line, handed on or held: 0 to 4,094.
     pub fn length(&self) -> u16
         ensures value { result ≡ line_length self.now }
         ensures within { line_length self.now < self.now.limit }
     {
-        // Nothing is done here; the proof that the sum fits begins with what every limit is.
+        // No code is needed; the proof that the sum fits begins with the range of every limit.
         let _limit = self.limit.bytes();
         self.ahead + self.held.len() as u16
     }
 
-    /// How many bytes the line has at most, with its closing byte.
+    /// Returns the most bytes that the line may have, with its closing byte.
     pub fn limit(&self) -> Limit
         ensures { result ≡ self.now.limit }
     {
         self.limit
     }
 
-    /// Types a key, a byte from 0 to 255 as the terminal gets it: its role is that of `role_of`. Memory is
-    /// wanted for a text alone, and after a refusal the line is as it was.
+    /// Types a key, a byte from 0 to 255 as the terminal gets it: its role is that of `role_of`.
+    ///
+    /// # Errors
+    ///
+    /// - `AllocError`: there is no memory for the text of a closed line; the line is as it was.
+    ///   Other keys take no memory.
     pub fn key(&mut self, settings: &Settings, key: u8) -> Result<Effect, AllocError>
-        // Whatever keys led to this half line, with this key they give what the effect gives, and
-        // leave the half line that is there now.
+        // After any keys that led to this half-typed line, this key gives the entries of the
+        // effect, and leaves the line that is there after the call.
         ensures advances { let roles = roles_of settings.now (key ∷ []) in
             IfOk result (λ effect. Advances self.old roles (effect_entries effect) self.new) }
         ensures dropped { IfOk result (DropsExactly self.old (roles_of settings.now (key ∷ []))) }
@@ -130,9 +141,12 @@ impl Line {
         self.play(role_of(settings, key))
     }
 
-    /// Types a byte of a line that was edited before it came (RFC 1184, section 2.2, EDIT): its role
-    /// is that of `role_of_literal`, so only a closing byte is anything but an ordinary byte. Memory is
-    /// wanted for a text alone, and after a refusal the line is as it was.
+    /// Types a byte of a line that was edited before it came (RFC 1184, section 2.2, EDIT): its
+    /// role is that of `role_of_literal`, so that only a closing byte is not ordinary.
+    ///
+    /// # Errors
+    ///
+    /// - `AllocError`: there is no memory for the text of a closed line; the line is as it was.
     pub fn literal(&mut self, settings: &Settings, byte: u8) -> Result<Effect, AllocError>
         ensures advances { let roles = literal_role settings.now.chars byte ∷ [] in
             IfOk result (λ effect. Advances self.old roles (effect_entries effect) self.new) }
@@ -148,8 +162,11 @@ impl Line {
         self.play(role_of_literal(settings, byte))
     }
 
-    /// Types a key whose role was looked up. Memory is wanted for a text alone, and after a refusal the
-    /// line is as it was.
+    /// Types a key whose role was looked up.
+    ///
+    /// # Errors
+    ///
+    /// - `AllocError`: there is no memory for the text of a closed line; the line is as it was.
     pub fn play(&mut self, role: Role) -> Result<Effect, AllocError>
         ensures advances { IfOk result
             (λ effect. Advances self.old (roles_from role) (effect_entries effect) self.new) }
@@ -164,8 +181,8 @@ impl Line {
         self.act(role)
     }
 
-    /// Types ordinary bytes, one after another, and returns how many were kept: as many as fit, and the
-    /// others are dropped. No memory is wanted.
+    /// Types ordinary bytes, one after another, and returns how many were kept: as many as fit. The
+    /// others are dropped. It takes no memory.
     pub fn keep_run(&mut self, bytes: &[u8]) -> usize
         ensures advances { Advances self.old (ordinary_roles bytes.now) [] self.new }
         ensures each { self.new ≡ line_after_all self.old (ordinary_roles bytes.now) }
@@ -178,8 +195,8 @@ impl Line {
         self.keep_front(bytes)
     }
 
-    /// Types leading keys that make no entry, and returns how many were typed: one at least where the first
-    /// makes none. No memory is wanted.
+    /// Types leading keys that make no entry, and returns how many were typed: at least one unless
+    /// the first makes an entry. It takes no memory.
     pub fn edit_run(&mut self, roles: &Roles, keys: &[u8]) -> usize
         ensures advances { let typed = roles_of roles.now (take result keys.now) in
             Advances self.old typed [] self.new }
@@ -194,8 +211,8 @@ impl Line {
         self.edit_some(roles, keys)
     }
 
-    /// Takes back the last byte, as ERASE does (POSIX.1-2017, XBD 11.1.9): a held one, or else one that
-    /// was handed on. On an empty line there is `Nothing` to take.
+    /// Takes back the last byte, as ERASE does (POSIX.1-2017, XBD 11.1.9): a held one, or else one
+    /// that was handed on. On an empty line it returns `Nothing`.
     pub fn erase(&mut self) -> Effect
         ensures advances { Advances self.old (role.Erase ∷ []) [] self.new }
         ensures effect { result ≡ effect_of self.old role.Erase }
@@ -204,8 +221,8 @@ impl Line {
         self.erase_byte()
     }
 
-    /// Takes back the whole half line, as KILL does (POSIX.1-2017, XBD 11.1.9), and returns `Killed` with
-    /// how many bytes of it were handed on: 0 to 4,094, and 0 on an empty line too.
+    /// Takes back the whole half-typed line, as KILL does (POSIX.1-2017, XBD 11.1.9), and returns
+    /// `Killed` with how many bytes of it were handed on: 0 to 4,094, and 0 on an empty line too.
     pub fn kill(&mut self) -> Effect
         ensures advances { Advances self.old (role.Kill ∷ []) [] self.new }
         ensures effect { result ≡ effect_of self.old role.Kill }
@@ -217,9 +234,13 @@ impl Line {
         Effect::Killed(ahead)
     }
 
-    /// Closes the line with no byte, as EOF does (POSIX.1-2017, XBD 11.1.9). Where nothing is held it
-    /// gives the end of file, and else a text: memory is wanted for that alone, and after a refusal the
-    /// line is as it was.
+    /// Closes the line with no byte, as EOF does (POSIX.1-2017, XBD 11.1.9). If the line is empty,
+    /// it gives the end of file, and else a text.
+    ///
+    /// # Errors
+    ///
+    /// - `AllocError`: there is no memory for the text; the line is as it was. The end of file
+    ///   takes none.
     pub fn end_of_file(&mut self) -> Result<Effect, AllocError>
         ensures advances { IfOk result
             (λ effect. Advances self.old (role.Eof ∷ []) (effect_entries effect) self.new) }
@@ -232,10 +253,15 @@ impl Line {
         self.play(Role::Eof)
     }
 
-    /// Hands on the bytes that are held: they are appended to `out`, and from now on they are ahead. It is
-    /// refused only where `out` has no room for them, and all is as it was then.
+    /// Hands on the bytes that are held: they are appended to `out`, and are ahead from then on.
+    ///
+    /// # Errors
+    ///
+    /// - `AllocError`: `out` has no room for the bytes, and there is no memory for more; nothing
+    ///   has changed.
     pub fn release(&mut self, out: &mut Vec<u8>) -> Result<(), AllocError>
-        // No key is typed: whatever keys led to this half line lead to the one that is there now.
+        // No key is typed: any keys that led to this half-typed line lead to the one that is there
+        // after the call.
         ensures half { OnOk result (KeepsHalf self.old self.new) }
         ensures line { OnOk result (self.new ≡ line_released self.old) }
         ensures out { OnOk result (out.new.items ≡ out.old.items ++ self.old.held) }
@@ -250,9 +276,10 @@ impl Line {
         Ok(())
     }
 
-    /// The bytes that are held were handed on by whoever calls: from now on they are ahead.
+    /// Marks the bytes that are held as ahead, since the caller has handed them on.
     pub fn hand_on(&mut self)
-        // No key is typed: whatever keys led to this half line lead to the one that is there now.
+        // No key is typed: any keys that led to this half-typed line lead to the one that is there
+        // after the call.
         ensures half { KeepsHalf self.old self.new }
         ensures line { self.new ≡ line_released self.old }
     {
@@ -260,18 +287,20 @@ impl Line {
         self.held.clear();
     }
 
-    /// Goes on with a half line that is elsewhere: so many bytes of it were handed on, and none is held.
+    /// Resumes a half-typed line that is elsewhere: `ahead` bytes of it were handed on, and none is
+    /// held.
     pub fn resume(&mut self, ahead: u16)
         requires empty { self.old.held ≡ [] }
         requires fits { ahead < self.old.limit }
-        // Whatever keys led to a half line of this length lead to the line that is there now.
+        // Any keys that led to a half-typed line of this length lead to the line that is there
+        // after the call.
         ensures half { LeadsWhereLong self.old.limit ahead self.new }
         ensures line { self.new ≡ line_resumed self.old.limit ahead }
     {
         self.ahead = ahead;
     }
 
-    // What a key of this role does.
+    // Applies a key of this role to the line.
     fn act(&mut self, role: Role) -> Result<Effect, AllocError>
         ensures effect { IfOk result (λ effect. effect ≡ effect_of self.old role) }
         ensures line { OnOk result (self.new ≡ line_after self.old role) }
@@ -339,7 +368,7 @@ impl Line {
         Effect::Kept
     }
 
-    // As many of the bytes as fit.
+    // Keeps as many of the bytes as fit.
     fn keep_front(&mut self, bytes: &[u8]) -> usize
         ensures count { let room = max_counted self.old.limit - line_length self.old in
             result ≡ min room (length bytes.now) }
@@ -396,7 +425,7 @@ impl Line {
         Ok(Entry::Text(Text::from(text)))
     }
 
-    // The bytes that are held, and this one behind them.
+    // Returns a text of the bytes that are held, and of this byte after them.
     fn closed_text(&self, closing: Option<u8>) -> Result<Vec<u8>, AllocError>
         ensures { IfOk result (λ text. text.items ≡ with_byte self.now.held closing) }
     {

@@ -9,30 +9,30 @@ use crate::reads::Sig;
 use crate::termios::{Flags, Settings};
 use tn_codes::Func;
 
-/// What a key does to the line.
+/// The role of a key: its effect on the line.
 #[derive(Clone, Copy, Debug, PartialEq, Eq)]
 pub enum Role {
-    /// A carriage return that is dropped.
+    /// A carriage return, which is dropped.
     Ignored,
-    /// A line feed closes the line.
+    /// A line feed, which closes the line.
     Nl,
-    /// The EOL character closes the line with its own byte.
+    /// The EOL character, which closes the line with its own byte.
     Eol(u8),
-    /// The EOL2 character, a second EOL, closes the line with its own byte.
+    /// The EOL2 character, a second EOL, which closes the line with its own byte.
     Eol2(u8),
-    /// The EOF character closes the line with no byte.
+    /// The EOF character, which closes the line with no byte.
     Eof,
     Signal(Sig),
-    /// The ERASE character takes back the last byte.
+    /// The ERASE character, which takes back the last byte.
     Erase,
-    /// The KILL character takes back the whole half line.
+    /// The KILL character, which takes back the whole half-typed line.
     Kill,
-    /// Any other byte joins the line.
+    /// Any other byte, which joins the line.
     Ordinary(u8),
 }
 
 impl Role {
-    /// Whether a key of this role makes an entry.
+    /// Returns whether a key of this role makes an entry.
     pub fn gives_entry(self) -> bool
         ensures { result ≡ gives_entry self }
     {
@@ -42,7 +42,7 @@ impl Role {
         )
     }
 
-    /// The byte that a key of this role closes a line with, if it closes it with one.
+    /// Returns the byte with which a key of this role closes a line, if it closes it with one.
     pub(crate) fn closing(self) -> Option<u8>
         ensures { result ≡ closing_byte self }
     {
@@ -107,8 +107,8 @@ fn mapped_role(settings: &Settings, byte: u8) -> Role
     }
 }
 
-/// The role of a typed byte under the settings: it is mapped first (XBD 11.2.2), and then looked up
-/// among the special characters (XBD 11.1.9).
+/// Returns the role of a typed byte under the settings: it is mapped first (XBD 11.2.2), and then
+/// looked up among the special characters (XBD 11.1.9).
 pub fn role_of(settings: &Settings, key: u8) -> Role
     ensures { result ≡ role_of_key settings.now key }
 {
@@ -118,8 +118,8 @@ pub fn role_of(settings: &Settings, key: u8) -> Role
     }
 }
 
-/// The role of a byte of a line that was edited before it came: it is not mapped, a line feed, the
-/// EOL or the EOL2 character closes the line, and any other byte is ordinary.
+/// Returns the role of a byte of a line that was edited before it came. The byte is not mapped: a
+/// line feed, the EOL or the EOL2 character closes the line, and any other byte is ordinary.
 pub fn role_of_literal(settings: &Settings, byte: u8) -> Role
     ensures { result ≡ literal_role settings.now.chars byte }
 {

@@ -1,4 +1,4 @@
-//! Laws of the definitions alone.
+//! Laws of keys, lines and characters, only over the definitions.
 
 ghost use Rattle.std.specs.Prelude.{◌≡◌, ◌+◌, ◌<◌, ◌≤◌, ℕ, Option, Some, None, List, All, [], ◌∷◌, ◌++◌};
 ghost use Rattle.std.specs.Prelude.{length};
@@ -11,7 +11,7 @@ ghost use Rattle.tn_discipline.specs.HalfLine.{HalfLine, line_length, effect_of,
 ghost use Rattle.tn_discipline.specs.Advancing.{LeadsTo, Advances, DropsExactly, AdvancesFromLine};
 ghost use Rattle.tn_discipline.specs.declared.{keys.Role.Role, reads.Entry.Entry, termios.Settings.Settings};
 
-/// Characters stay distinct and unreserved where one of them takes a value that is not refused.
+/// Characters stay distinct and unreserved if one of them takes a value that is not refused.
 pub fn accepted_characters()
     ensures distinct { (chars : Characters) (f g : Func) (byte : ℕ) →
         AreAllowed chars → slot chars f ≡ Some byte → slot chars g ≡ Some byte → f ≡ g }
@@ -32,7 +32,7 @@ pub fn roles_of_more_keys()
         roles_from (literal_role chars byte) ≡ literal_role chars byte ∷ [] }
 {}
 
-/// The plain count of the admitted keys is the length of the half line, and so it fits.
+/// The plain count of the admitted keys is the length of the half-typed line, so that line fits.
 pub fn count_is_length()
     ensures count { (limit : ℕ) (history : List Role) →
         count_of limit history ≡ length (half_of limit history) }
@@ -45,7 +45,8 @@ pub fn texts_fit()
         All (HasAtMost limit) (entries_of limit history) }
 {}
 
-/// One more role: what it leaves and what it gives depend on the half line alone.
+/// The half-typed line and the entries after one more role depend only on the half-typed line
+/// before it.
 pub fn one_more_role()
     ensures half { (limit : ℕ) (history : List Role) (r : Role) →
         half_of limit (history ++ r ∷ []) ≡ half_next limit (half_of limit history) r }
@@ -53,7 +54,8 @@ pub fn one_more_role()
         entries_of limit (history ++ r ∷ []) ≡ entries_of limit history ++ gain_next limit half r }
 {}
 
-/// The same for a list of roles.
+/// The half-typed line and the entries after some more roles depend only on the half-typed line
+/// before them.
 pub fn more_roles()
     ensures half { (limit : ℕ) (history roles : List Role) →
         half_of limit (history ++ roles) ≡ half_all limit (half_of limit history) roles }
@@ -61,21 +63,21 @@ pub fn more_roles()
         entries_of limit (history ++ roles) ≡ entries_of limit history ++ gain_all limit half roles }
 {}
 
-/// Each line that fits is left by some keys, so that what is said of all keys that left it says
-/// something.
+/// Each line that fits is left by some keys, so that a statement about all keys that left it is
+/// never empty.
 pub fn every_line_is_left()
     ensures { (line : HalfLine) → line_length line < line.limit →
         (history : List Role) × LeadsTo history line }
 {}
 
-/// What a key of each role does to a line is what the whole list of keys says of it.
+/// The effect of a key of each role on a line is the one that the whole list of keys gives.
 pub fn each_role_advances()
     ensures advances { (line : HalfLine) (r : Role) →
         Advances line (roles_from r) (effect_entries (effect_of line r)) (line_after line r) }
     ensures dropped { (line : HalfLine) (r : Role) → DropsExactly line (roles_from r) (effect_of line r) }
 {}
 
-/// What is said of all keys that left a line is said by the line alone, and the other way round.
+/// A statement about all keys that left a line follows from the line, and the other way round.
 pub fn moves_are_advances()
     ensures moves { (old new : HalfLine) (roles : List Role) (gain : List Entry) →
         line_length old < old.limit → Advances old roles gain new → AdvancesFromLine old roles gain new }

@@ -1,5 +1,8 @@
 //! The line discipline of a terminal in canonical mode (POSIX.1-2017, XBD 11.1): special
-//! characters, the roles of keys, the half line that is being typed, and its echo.
+//! characters, the roles of keys, the half-typed line, and its echo.
+//!
+//! Begin with `Line`, the half-typed line that keys edit, and `Settings`, the flags and characters
+//! of the terminal.
 //!
 //! ```
 //! let mut line = Line::new(alloc, Limit::standard())?;

@@ -1,4 +1,4 @@
-//! How long a line may be.
+//! The limit on the length of a line.
 
 ghost use Rattle.std.specs.Prelude.{◌≡◌, Some, None, IsTrue, if◌then◌else◌};
 ghost use Rattle.tn_discipline.specs.Limits.{standard_limit, is_limit};
@@ -10,7 +10,7 @@ const STANDARD_BYTES: u16 = 255;
 
 const MAX_BYTES: u16 = 4095;
 
-/// How many bytes a line of a terminal has at most, with its closing byte: MAX_CANON of
+/// The most bytes that a line of a terminal may have, with its closing byte: MAX_CANON of
 /// POSIX.1-2017, XBD 11.1.6, from 255 to 4,095.
 #[derive(Clone, Copy, Debug, PartialEq, Eq)]
 pub struct Limit {
@@ -31,7 +31,7 @@ impl Model for Limit {
 }
 
 impl Limit {
-    /// A limit of so many bytes; `None` of fewer than 255 and of more than 4,095.
+    /// Makes a limit of this number of bytes, from 255 to 4,095; `None` outside of that range.
     pub fn new(bytes: u16) -> Option<Limit>
         ensures { result ≡ (if is_limit bytes then Some bytes else None) }
     {
@@ -42,7 +42,7 @@ impl Limit {
         }
     }
 
-    /// 255 bytes, which POSIX.1-2017 asks of every terminal (_POSIX_MAX_CANON).
+    /// Makes the limit of 255 bytes, which POSIX.1-2017 asks of every terminal (_POSIX_MAX_CANON).
     pub fn standard() -> Limit
         ensures { result ≡ standard_limit }
     {
@@ -51,7 +51,7 @@ impl Limit {
         }
     }
 
-    /// The number of bytes.
+    /// Returns the number of bytes, from 255 to 4,095.
     pub fn bytes(self) -> u16
         ensures value { result ≡ self }
         ensures within { IsTrue (is_limit self) }

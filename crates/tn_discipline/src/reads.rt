@@ -1,4 +1,4 @@
-//! What a read of a terminal gives.
+//! The entries that reads of a terminal return.
 
 ghost use Rattle.std.specs.{Prelude.{◌≡◌, nat_eq}, Cmp.Lexicographic.{pointwise, nat_list_eq_equiv}};
 ghost use Rattle.std.specs.Cmp.{partial_equiv_from_equiv};
@@ -31,7 +31,7 @@ impl Model for Text {
 }
 
 impl Text {
-    /// The bytes, in the order in which they were typed.
+    /// Returns the bytes, in the order in which they were typed.
     pub fn as_slice(&self) -> &[u8]
         ensures { result.now ≡ self.now }
     {
@@ -70,12 +70,12 @@ impl Eq for Text {
     ghost laws = { nat_list_eq_equiv };
 }
 
-/// What one read of the terminal gives.
+/// An entry: the result of one read of the terminal.
 #[derive(Debug, PartialEq, Eq, Drop)]
 pub enum Entry {
-    /// A line with its closing byte, or without one where EOF ended it.
+    /// A line with its closing byte, or without one if EOF ended it.
     Text(Text),
-    /// EOF came where nothing was typed.
+    /// EOF came when nothing was typed.
     Eof,
     /// A signal, which leaves the line as it is.
     Signal(Sig),

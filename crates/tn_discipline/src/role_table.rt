@@ -8,10 +8,11 @@ use crate::termios::Settings;
 use std::alloc::{AllocError, Global};
 use std::marker::Model;
 
-/// How many keys there are: each byte is one.
+/// The number of keys: each byte is one.
 const KEYS: usize = 256;
 
-/// Settings, with the role of each key under them in a table, where it is looked up and not searched.
+/// Settings, with the role of each key under them in a table, so that it is looked up and not
+/// searched.
 #[derive(Drop)]
 pub struct Roles {
     settings: Settings,
@@ -30,7 +31,12 @@ impl Model for Roles {
 }
 
 impl Roles {
-    /// The roles under these settings. It makes the room for the table, of 256 roles, once.
+    /// Makes the roles under these settings, with room for the table of 256 roles, which it takes
+    /// once.
+    ///
+    /// # Errors
+    ///
+    /// - `AllocError`: there is no memory for the table.
     pub fn new(alloc: Global, settings: Settings) -> Result<Roles, AllocError>
         ensures { IfOk result (λ roles. roles ≡ settings) }
     {
@@ -39,14 +45,14 @@ impl Roles {
         Ok(Roles { settings, table })
     }
 
-    /// The settings, as they were set last.
+    /// Returns the settings, as they were set last.
     pub fn settings(&self) -> Settings
         ensures { result ≡ self.now }
     {
         self.settings
     }
 
-    /// Sets the settings, and the role of each key in its place: no memory is wanted.
+    /// Sets the settings, and the role of each key in its place. It takes no memory.
     pub fn set(&mut self, settings: Settings)
         ensures { self.new ≡ settings }
     {
@@ -54,15 +60,15 @@ impl Roles {
         self.settings = settings;
     }
 
-    /// The role of a typed byte, as `role_of` says.
+    /// Returns the role of a typed byte, as `role_of` gives it.
     pub fn role(&self, key: u8) -> Role
         ensures { result ≡ role_of_key self.now key }
     {
         self.table[key as usize]
     }
 
-    /// How many leading keys join the line as they are: each of them is ordinary, and mapped to
-    /// itself. The key after them is another, or there is none.
+    /// Returns the number of leading keys that join the line as they are: each of them is ordinary,
+    /// and mapped to itself. The key after them is another, or there is none.
     pub fn ordinary_front(&self, keys: &[u8]) -> usize
         ensures within { result ≤ length keys.now }
         ensures plain { All (IsPlain self.now) (take result keys.now) }

@@ -21,7 +21,8 @@ pub struct Flags {
     pub onlcr: bool,
 }
 
-/// What a terminal makes of keys and of output.
+/// The settings of a terminal: its flags and its special characters, which decide how keys and
+/// output are processed.
 #[derive(Clone, Copy, PartialEq, Eq)]
 pub struct Settings {
     pub flags: Flags,
@@ -29,8 +30,8 @@ pub struct Settings {
 }
 
 impl Settings {
-    /// The settings of a new terminal: of the flags (POSIX.1-2017, XBD 11.2) ICRNL,
-    /// ISIG, ECHO, ECHOE, ECHOK, OPOST and ONLCR are set, and the characters are `Chars::standard`.
+    /// Makes the settings of a new terminal: of the flags (POSIX.1-2017, XBD 11.2) ICRNL, ISIG,
+    /// ECHO, ECHOE, ECHOK, OPOST and ONLCR are set, and the characters are `Chars::standard`.
     pub fn standard() -> Self
         ensures flags { result.flags ≡ standard_flags }
         ensures chars { result.chars ≡ standard_characters }

@@ -1,4 +1,4 @@
--- An editor holds enough of a half line.
+-- An editor holds enough of a half-typed line.
 use Rattle.std.proofs.Common.{◌≡◌, ◌≤◌, ℕ, ◌+◌, ◌-◌, ◌==◌, nat_le, nat_lt, Bool, true, false, not, ◌&&◌, ◌||◌, List, [], ◌∷◌, ◌++◌, length, map, take, refl, sym}
 use Rattle.std.proofs.{Common.{ap, ◌∙◌, subst, if◌then◌else◌, arith, length-append, length-take}, lemmas.List.take_at}
 use Rattle.tn_discipline.specs.{Keys.role_of_key, Limits.max_counted, Steps.front, declared.termios.Settings.Settings}
@@ -159,7 +159,7 @@ module _ (t : Terminal) (e : Editing) (old : Editor) (s : Holds t e old) where
   pub limit_is : old.line.limit ≡ t.canon.limit
   limit_is = ap (λ (l : HeldLine). l.limit) s.line
 
-  -- these many bytes ahead, and no character
+  -- a line of this many bytes ahead, and no character
   pub resumed_line : (half : List ℕ) (n : ℕ) → length half ≡ n
       → let one : HeldLine = record { ahead = n; held = []; characters = []; limit = old.line.limit } in one ≡ as_held t.canon.limit (after_half half)
   resumed_line half n is =

@@ -39,7 +39,7 @@ module _ (t : Terminal) (ahead : List ℕ) (before : List (List ℕ)) (first : �
   none_more : (byte : ℕ) → continues t.keys.iutf8 no_character byte ≡ false
   none_more byte = nothing_more (is_between 128 191 byte) (nat_lt 0 (announced t.keys.iutf8 0))
 
-  -- these characters after the bytes ahead
+  -- a line of these characters after the bytes ahead
   abbrev typed_after : List (List ℕ) → Editing
   typed_after characters = record { ahead = ahead; characters = characters; refused = no_character }
 
@@ -78,7 +78,7 @@ module _ (t : Terminal) (ahead : List ℕ) (before : List (List ℕ)) (first : �
 room_from : (n m : ℕ) → nat_le n m ≡ true → n ≤ m
 room_from n m h = grind arith
 
--- what a byte leaves, by what is so of it
+-- the state that a byte leaves, by these tests
 abbrev after : Editing → ℕ → Bool → Bool → Bool → Editing
 after e first kept refused joins =
     if kept then with_characters e (if joins then (newest e.characters ++ first ∷ []) ∷ before_newest e.characters else (first ∷ []) ∷ e.characters)

@@ -1,5 +1,5 @@
--- Keys that are typed while the editing keys change within a line. The settings that gave a key its role may change
--- as well, so that they are not named here.
+-- Keys that are typed while the editing keys change within a line. The settings that gave a key its role may
+-- change as well, so that they are not named in this file.
 use Rattle.std.specs.Prelude.{List, [], ◌∷◌, ◌++◌}
 use Rattle.tn_discipline.specs.{Canon.Canon, declared.{keys.Role.Role, reads.Entry.Entry}}
 use Rattle.tn_editor.specs.{EditKeys.Terminal, Edited.{Editing, edited_next, edited_gain}, Expanding.{times, played_times}}
@@ -15,12 +15,12 @@ module _ (canon : Canon) where
   abbrev pub under : EditKeys → Terminal
   under keys = record { canon = canon; keys = keys }
 
-  -- what typed keys leave
+  -- the state that typed keys leave
   abbrev pub typed_all : Editing → List Typed → Editing
   typed_all e [] = e
   typed_all e (key ∷ more) = typed_all (edited_next (under key.keys) e key.role) more
 
-  -- what typed keys give
+  -- the entries that typed keys give
   abbrev pub typed_gains : Editing → List Typed → List Entry
   typed_gains e [] = []
   typed_gains e (key ∷ more) = edited_gain e key.role ++ typed_gains (edited_next (under key.keys) e key.role) more

@@ -1,4 +1,4 @@
--- What typed keys are to a terminal with editing keys.
+-- The roles of typed keys at a terminal with editing keys.
 use Rattle.std.specs.Prelude.{ℕ, Bool, true, false, ◌&&◌, Option, Some, None, List, map, if◌then◌else◌}
 use Rattle.tn_discipline.specs.{Characters.is_set_to, Canon.Canon, Keys.{roles_of, role_of_key}}
 use Rattle.tn_discipline.specs.declared.{keys.Role.Role, termios.Settings.Settings}
@@ -11,6 +11,7 @@ pub record Terminal : Type 0 where
   pub canon : Canon
   pub keys : EditKeys
 
+-- the terminal has this special character
 abbrev pub is_present : Option ℕ → Bool
 is_present None = false
 is_present (Some byte) = true

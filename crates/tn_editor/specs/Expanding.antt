@@ -7,7 +7,7 @@ use Rattle.tn_editor.specs.{Grouping.announced, EditKeys.{Terminal, edit_role_of
 use Rattle.tn_editor.specs.declared.edit_keys.EditRole.{EditRole, TheVariants.{Plain, EraseWord, Reprint}}
 use Rattle.tn_editor.specs.Edited.{Editing, nothing_typed, line_bytes, word_erased, is_kept, edited_next}
 
--- how many ERASEs take back the last character; one if there is none
+-- the number of ERASEs that take back the last character; one if there is none
 abbrev pub erases_newest : List (List ℕ) → ℕ
 erases_newest [] = 1
 erases_newest (character ∷ before) = length character
@@ -17,13 +17,13 @@ abbrev pub erase_key : Option ℕ → ℕ → ℕ
 erase_key None key = key
 erase_key (Some erase) key = erase
 
--- which key is typed at the plain terminal in place of this one
+-- the key that is typed at the plain terminal in place of this one
 abbrev pub becomes : Characters → EditRole → ℕ → ℕ
 becomes chars EraseWord key = erase_key chars.erase key
 becomes chars _ key = key
 
 module _ (t : Terminal) where
-  -- how many ERASEs take back the last word
+  -- the number of ERASEs that take back the last word
   abbrev pub erases_word : Editing → ℕ
   erases_word e = length (line_bytes e) - length (line_bytes (word_erased t.keys.words e))
 
@@ -31,7 +31,7 @@ module _ (t : Terminal) where
   abbrev pub is_dropped_there : Editing → Bool
   is_dropped_there e = length (line_bytes e) == max_counted t.canon.limit
 
-  -- how many times a key is typed at the plain terminal
+  -- the number of times that a key is typed at the plain terminal
   abbrev pub times : Editing → EditRole → ℕ
   times e (Plain (role.Ordinary byte)) = if is_kept t e byte || is_dropped_there e then 1 else 0
   times e (Plain role.Erase) = erases_newest e.characters
@@ -48,6 +48,7 @@ abbrev pub expanded_from : Terminal → Editing → List ℕ → List ℕ
 expanded_from t e [] = []
 expanded_from t e (key ∷ keys) = expanded_key t e key ++ expanded_from t (edited_next t e (edit_role_of_key t key)) keys
 
+-- the keys of the plain terminal for these typed keys
 abbrev pub expanded : Terminal → List ℕ → List ℕ
 expanded t keys = expanded_from t nothing_typed keys
 

@@ -1,4 +1,4 @@
--- The state of an editor, said for every half line that it may hold.
+-- The state of an editor, for every half-typed line that it may hold.
 use Rattle.std.specs.Prelude.{◌≡◌, ℕ, replicate}
 use Rattle.tn_editor.specs.{EditKeys.{Terminal, edit_role_of_key}, Edited.{Editing, edited_next}, Expanding.expanded_key}
 use Rattle.tn_editor.specs.{EditedLines.as_held, declared.editor.{Editor.Editor, Presses.Presses}}

@@ -4,6 +4,7 @@ use Rattle.std.specs.Prelude.{if◌then◌else◌}
 use Rattle.tn_editor.specs.declared.{characters.Character.Character, edit_keys.Words.Words}
 use Rattle.tn_editor.specs.declared.edit_keys.Words.TheVariants as words
 
+-- the byte lies between these two
 abbrev pub is_between : ℕ → ℕ → ℕ → Bool
 is_between least most byte = nat_le least byte && nat_le byte most
 
@@ -14,10 +15,11 @@ announced_utf8 byte =
     (if is_between 224 239 byte then 3 else
     (if is_between 240 244 byte then 4 else 1))
 
+-- the number of bytes of the character that begins with this byte
 abbrev pub announced : Bool → ℕ → ℕ
 announced iutf8 byte = if iutf8 then announced_utf8 byte else 1
 
--- how the bytes of a character begin, and how many came
+-- the first byte of a character, and the number of its bytes that came
 abbrev pub look : List ℕ → Character
 look [] = record { first = 0; length = 0 }
 look (first ∷ more) = record { first = first; length = length (first ∷ more) }
@@ -32,6 +34,7 @@ abbrev pub newest : List (List ℕ) → List ℕ
 newest [] = []
 newest (character ∷ before) = character
 
+-- the characters before the last one
 abbrev pub before_newest : List (List ℕ) → List (List ℕ)
 before_newest [] = []
 before_newest (character ∷ before) = before
@@ -47,10 +50,11 @@ with_byte iutf8 characters byte =
     if continues iutf8 (look (newest characters)) byte then (newest characters ++ byte ∷ []) ∷ before_newest characters
     else (byte ∷ []) ∷ characters
 
--- how much room the byte wants: what begins a character wants as much as the whole of it
+-- the room that the byte wants: one that begins a character wants as much as the whole of it
 abbrev pub wanted : Bool → List (List ℕ) → ℕ → ℕ
 wanted iutf8 characters byte = if continues iutf8 (look (newest characters)) byte then 1 else announced iutf8 byte
 
+-- the byte is a letter, a digit or the underline
 abbrev pub is_word_byte : ℕ → Bool
 is_word_byte byte = is_between 48 57 byte || is_between 65 90 byte || is_between 97 122 byte || byte == 95
 

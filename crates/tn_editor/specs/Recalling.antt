@@ -7,6 +7,6 @@ use Rattle.tn_editor.specs.{EditKeys.{Terminal, edit_role_of_key}, declared.edit
 abbrev pub IsItself : Terminal → ℕ → Type 0
 IsItself t key = edit_role_of_key t key ≡ Plain (Ordinary key)
 
--- the keys that put a line in place of the half line: KILL, and the bytes of the line
+-- the keys that put a line in place of the half-typed line: KILL, and the bytes of the line
 abbrev pub recalling : ℕ → List ℕ → List ℕ
 recalling kill line = kill ∷ line

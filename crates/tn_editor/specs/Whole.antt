@@ -8,6 +8,7 @@ use Rattle.tn_editor.specs.declared.edit_keys.EditRole.{EditRole, TheVariants.Pl
 abbrev pub bytes_typed : List ℕ → List EditRole
 bytes_typed bytes = map (λ byte. Plain (Ordinary byte)) bytes
 
+-- these bytes continue a character of UTF-8
 abbrev pub AreMore : List ℕ → Type 0
 AreMore [] = Unit {0}
 AreMore (byte ∷ more) = IsTrue (is_between 128 191 byte) × AreMore more

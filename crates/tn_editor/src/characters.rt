@@ -1,4 +1,4 @@
-//! The characters of a half line.
+//! The characters of a half-typed line.
 
 ghost use Rattle.std.specs.Prelude.{◌≡◌, ◌<◌, ◌≤◌, true};
 ghost use Rattle.tn_editor.specs.{Edited.no_character, EditedLines.times_erased};
@@ -6,7 +6,7 @@ ghost use Rattle.tn_editor.specs.Grouping.{announced, continues, parts_words, is
 
 use crate::edit_keys::Words;
 
-/// A character of a half line: its first byte, and how many of its bytes came.
+/// A character of a half-typed line: its first byte, and how many of its bytes came.
 #[derive(Clone, Copy, Debug, PartialEq, Eq)]
 pub(crate) struct Character {
     pub(crate) first: u8,
@@ -14,7 +14,7 @@ pub(crate) struct Character {
 }
 
 impl Character {
-    /// The lack of a character, which has no byte.
+    /// Makes the lack of a character, which has no byte.
     pub(crate) fn none() -> Character
         ensures { result ≡ no_character }
     {
@@ -24,7 +24,8 @@ impl Character {
         }
     }
 
-    /// How many ERASEs take the character back at a plain terminal. It is one if there is no character.
+    /// Returns the number of ERASEs that take the character back at a plain terminal. It is 1 if
+    /// there is no character.
     pub(crate) fn erases(self) -> u16
         ensures { result ≡ times_erased self }
     {
@@ -36,7 +37,7 @@ impl Character {
     }
 }
 
-/// How many bytes the character has that begins with this byte (RFC 3629, section 4).
+/// Returns the number of bytes of the character that begins with this byte (RFC 3629, section 4).
 pub(crate) fn announced(iutf8: bool, byte: u8) -> u8
     ensures value { result ≡ announced iutf8 byte }
     ensures few { result ≤ 4 }
@@ -52,7 +53,7 @@ pub(crate) fn announced(iutf8: bool, byte: u8) -> u8
     }
 }
 
-/// Whether the byte goes on with this character.
+/// Returns whether the byte goes on with this character.
 pub(crate) fn continues(iutf8: bool, character: Character, byte: u8) -> bool
     ensures value { result ≡ continues iutf8 character byte }
     ensures some { result ≡ true → 1 ≤ character.length }
@@ -62,7 +63,7 @@ pub(crate) fn continues(iutf8: bool, character: Character, byte: u8) -> bool
     is_more && 0 < character.length && character.length < announced(iutf8, character.first)
 }
 
-/// Whether the character parts words.
+/// Returns whether the character parts words.
 pub(crate) fn parts_words(words: Words, character: Character) -> bool
     ensures { result ≡ parts_words words character }
 {

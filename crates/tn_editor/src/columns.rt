@@ -2,7 +2,7 @@
 
 use unicode_width::UnicodeWidthChar;
 
-// What the last bytes began.
+// The sequence that the last bytes began.
 #[derive(Clone, Copy, PartialEq, Eq)]
 enum Begun {
     Nothing,
@@ -33,7 +33,7 @@ impl Column {
         }
     }
 
-    /// The column, which is the window's width after a character in its last column.
+    /// Returns the column, which is the window's width after a character in its last column.
     pub(crate) fn column(&self) -> usize {
         self.column
     }
@@ -90,14 +90,14 @@ impl Column {
         self.put(window, width);
     }
 
-    // A character that does not fit into the row begins the next one.
+    // Moves past a character; one that does not fit into the row begins the next one.
     fn put(&mut self, window: usize, width: usize) {
         let column = self.column.saturating_add(width);
         self.column = if column > window { width } else { column };
     }
 }
 
-// A tab stops at the last column of the row.
+// Returns the column after a tab, which stops at the last column of the row.
 fn after_tab(window: usize, column: usize) -> usize {
     let next = column.saturating_add(8 - column % 8);
     next.min(window.saturating_sub(1)).max(column)

@@ -40,14 +40,14 @@ pub struct Arrows {
 }
 
 impl Arrows {
-    /// No byte waits.
+    /// Makes a recognizer for which no byte waits.
     pub fn new() -> Arrows {
         Arrows {
             waiting: Waiting::Nothing,
         }
     }
 
-    /// Whether bytes wait for the next one.
+    /// Returns whether bytes wait for the next one.
     pub fn waits(&self) -> bool {
         self.waiting != Waiting::Nothing
     }
@@ -69,7 +69,7 @@ impl Arrows {
         }
     }
 
-    /// Gives up what waits, if no byte follows: these bytes are typed.
+    /// Gives up the bytes that wait, if no byte follows: these bytes are typed.
     pub fn give_up(&mut self) -> [Option<u8>; 3] {
         let before = self.waiting;
         self.waiting = Waiting::Nothing;
@@ -85,7 +85,7 @@ impl Arrows {
         Pressed::Waits
     }
 
-    // The last byte of three.
+    // Takes the last byte of three.
     fn end(&mut self, second: u8, byte: u8) -> Pressed {
         match byte {
             b'A' => Pressed::Arrow(Arrow::Up),

@@ -1,4 +1,4 @@
-//! The half line on a screen.
+//! The half-typed line on a screen.
 
 ghost use Rattle.std.specs.Prelude.{◌≤◌};
 
@@ -18,8 +18,9 @@ const WIPE: &[u8] = b"\x1b[J";
 /// Bytes that are no character are shown as U+FFFD.
 const BROKEN: &[u8] = b"\xef\xbf\xbd";
 
-/// A half line on a screen: the columns that each character takes, and the place of the cursor.
-/// It is drawn as a terminal with ECHO, ECHOE, ECHOK and ECHOKE draws it, over as many rows as it wants.
+/// A half-typed line on a screen: the columns that each character takes, and the place of the
+/// cursor. It is drawn as a terminal with ECHO, ECHOE, ECHOK and ECHOKE draws it, over as many rows
+/// as it wants.
 #[derive(Drop)]
 pub struct Drawn {
     widths: Vec<u8>,
@@ -31,7 +32,7 @@ pub struct Drawn {
     echoctl: bool,
 }
 
-/// How a character is drawn.
+/// The form in which a character is drawn.
 #[derive(Clone, Copy, PartialEq, Eq)]
 enum Look {
     // Its own bytes, over this number of columns.
@@ -47,8 +48,8 @@ enum Look {
 }
 
 impl Drawn {
-    /// An empty line, at the left edge of a window of `window` columns; 0 stands for a window without an edge. Control
-    /// characters are drawn as `^X` if ECHOCTL is on, else as they are.
+    /// Makes an empty line, at the left edge of a window of `window` columns; 0 stands for a window
+    /// without an edge. Control characters are drawn as `^X` if ECHOCTL is on, else as they are.
     ///
     /// # Errors
     ///
@@ -70,12 +71,13 @@ impl Drawn {
         })
     }
 
-    /// Sets how many columns the window has. A half line that is drawn is taken away before, and drawn again after.
+    /// Sets how many columns the window has. A half-typed line that is drawn is taken away before,
+    /// and drawn again after.
     pub fn set_window(&mut self, window: u16) {
         self.window = window;
     }
 
-    /// Follows output that was shown while no part of a half line was drawn.
+    /// Follows output that was shown while no part of a half-typed line was drawn.
     pub fn shown(&mut self, output: &[u8]) {
         let window = self.window();
         for byte in output {
@@ -124,7 +126,8 @@ impl Drawn {
         Ok(())
     }
 
-    /// Appends what takes the half line off the screen, so that output can be shown in its place.
+    /// Appends what takes the half-typed line off the screen, so that output can be shown in its
+    /// place.
     ///
     /// # Errors
     ///
@@ -135,8 +138,8 @@ impl Drawn {
         Ok(())
     }
 
-    /// Appends what shows the half line again, after `away` and the output that came. After `Editor::resume` it
-    /// takes note of the bytes ahead, which are on the screen already.
+    /// Appends what shows the half-typed line again, after `away` and the output that came. After
+    /// `Editor::resume` it takes note of the bytes ahead, which are on the screen already.
     ///
     /// # Errors
     ///
@@ -145,8 +148,9 @@ impl Drawn {
         self.follow(editor, out)
     }
 
-    /// Appends what shows these bytes after the half line. The cursor stays at the end of the half line, and what is
-    /// shown is not part of it: `wipe_rest` takes it away before anything else is drawn.
+    /// Appends what shows these bytes after the half-typed line. The cursor stays at the end of the
+    /// half-typed line, and what is shown is not part of it: `wipe_rest` takes it away before
+    /// anything else is drawn.
     ///
     /// # Errors
     ///
@@ -202,7 +206,7 @@ impl Drawn {
         Ok(())
     }
 
-    // Goes so many rows up, to this column.
+    // Goes this number of rows up, to this column.
     fn go_up(&self, rows: usize, column: usize, out: &mut Vec<u8>) -> Result<(), AllocError> {
         for _ in 0..rows {
             out.extend_from_slice(b"\x1b[A")?;
@@ -214,7 +218,7 @@ impl Drawn {
         Ok(())
     }
 
-    // The window's columns: without an edge as many as a line can take.
+    // Returns the window's columns: without an edge as many as a line can take.
     fn window(&self) -> usize
         ensures { 1 ≤ result }
     {
@@ -225,13 +229,13 @@ impl Drawn {
         }
     }
 
-    // The line has ended.
+    // Ends the line.
     fn end(&mut self, editor: &Editor) {
         self.ahead = editor.line.ahead();
         self.close();
     }
 
-    // The next line, or this one again, begins at the cursor.
+    // Begins the next line, or this one again, at the cursor.
     fn close(&mut self) {
         self.widths.clear();
         let window = self.window();
@@ -253,7 +257,7 @@ impl Drawn {
         }
     }
 
-    // Shows REPRINT's character, and the half line below.
+    // Shows REPRINT's character, and the half-typed line below.
     fn reprint(&mut self, editor: &Editor, out: &mut Vec<u8>) -> Result<(), AllocError> {
         if let Some(byte) = editor.keys.rprnt {
             self.put(&[byte], look_of(&[byte], false, self.echoctl), out)?;
@@ -264,7 +268,7 @@ impl Drawn {
         self.follow(editor, out)
     }
 
-    // Draws what is new of the half line, and rubs out what is gone.
+    // Draws what is new of the half-typed line, and rubs out what is gone.
     fn follow(&mut self, editor: &Editor, out: &mut Vec<u8>) -> Result<(), AllocError> {
         let count = editor.line.characters().len();
         if count < self.widths.len() {
@@ -404,7 +408,7 @@ impl Drawn {
     }
 }
 
-/// The bytes of the first of some characters.
+/// Returns the bytes of the first of some characters.
 pub fn first_character(bytes: &[u8], iutf8: bool) -> &[u8] {
     let Some(first) = bytes.first() else {
         return bytes;
@@ -413,7 +417,7 @@ pub fn first_character(bytes: &[u8], iutf8: bool) -> &[u8] {
     bytes.get(..length).unwrap_or(bytes)
 }
 
-// How a character is drawn that has these bytes, and no more.
+// Returns the form in which a character is drawn that has these bytes, and no more.
 fn whole_look(bytes: &[u8], iutf8: bool, echoctl: bool) -> Look {
     match look_of(bytes, iutf8, echoctl) {
         Look::Unfinished => Look::Broken,
@@ -421,7 +425,7 @@ fn whole_look(bytes: &[u8], iutf8: bool, echoctl: bool) -> Look {
     }
 }
 
-// How a character is drawn that has these bytes.
+// Returns the form in which a character is drawn that has these bytes.
 fn look_of(bytes: &[u8], iutf8: bool, echoctl: bool) -> Look {
     let Some(first) = bytes.first() else {
         return Look::Unfinished;

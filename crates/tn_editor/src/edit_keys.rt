@@ -40,8 +40,9 @@ pub enum EditRole {
     Reprint,
 }
 
-/// The role of a key that has this role at a plain terminal. A special character of that terminal keeps its
-/// meaning. There is no WERASE without an ERASE character, and no REPRINT while ECHO is off.
+/// Returns the role of a key that has this role at a plain terminal. A special character of that
+/// terminal keeps its meaning. There is no WERASE without an ERASE character, and no REPRINT while
+/// ECHO is off.
 pub(crate) fn edit_role(settings: &Settings, keys: &EditKeys, role: Role) -> EditRole
     ensures { result ≡ edit_role settings.now keys.now role }
 {

@@ -1,4 +1,4 @@
-//! The half line, in characters.
+//! The half-typed line, in characters.
 
 ghost use Rattle.std.specs.Prelude.{◌≡◌, ◌<◌, ◌≤◌, ◌+◌, [], ◌∷◌, ◌++◌, length, take, IfOk};
 ghost use Rattle.tn_editor.specs.{Grouping.past, EditedLines.{cut_to, is_parting}};
@@ -11,7 +11,8 @@ use std::alloc::{AllocError, Global};
 use std::marker::Model;
 use tn_discipline::Limit;
 
-/// A half line: how many bytes are ahead, of which nothing is known, and the bytes after them in characters.
+/// A half-typed line: the number of bytes ahead, of which nothing is known, and the bytes after
+/// them in characters.
 #[derive(Debug, Drop)]
 pub(crate) struct EditedLine {
     ahead: u16,
@@ -40,7 +41,7 @@ impl Model for EditedLine {
 }
 
 impl EditedLine {
-    /// An empty line. It makes the room for a whole line once.
+    /// Makes an empty line, with room for a whole line, which it takes once.
     pub(crate) fn new(alloc: Global, limit: Limit) -> Result<EditedLine, AllocError>
         ensures { IfOk result (λ l. l ≡ record { ahead = 0; held = []; characters = []; limit = limit }) }
     {
@@ -53,17 +54,17 @@ impl EditedLine {
         })
     }
 
-    /// How many bytes the half line has, with those ahead.
+    /// Returns the number of bytes of the half-typed line, with those ahead.
     pub(crate) fn bytes(&self) -> u16
         ensures value { result ≡ line_length self.now }
         ensures within { result < self.now.limit }
     {
-        // Nothing is done here; the proof that the sum fits begins with what every limit is.
+        // No code is needed; the proof that the sum fits begins with the range of every limit.
         let _limit = self.limit.bytes();
         self.ahead + self.held.len() as u16
     }
 
-    /// The bytes after those ahead.
+    /// Returns the bytes after those ahead.
     pub(crate) fn held(&self) -> &[u8]
         ensures value { result.now ≡ self.now.held }
         ensures whole { weigh self.now.characters ≡ length self.now.held }
@@ -71,14 +72,14 @@ impl EditedLine {
         self.held.as_slice()
     }
 
-    /// How many bytes are ahead.
+    /// Returns the number of bytes ahead.
     pub(crate) fn ahead(&self) -> u16
         ensures { result ≡ self.now.ahead }
     {
         self.ahead
     }
 
-    /// The characters of the bytes that are held, from the first to the last.
+    /// Returns the characters of the bytes that are held, from the first to the last.
     pub(crate) fn characters(&self) -> &[Character] {
         self.characters.as_slice()
     }
@@ -89,7 +90,7 @@ impl EditedLine {
         self.limit
     }
 
-    /// The last character; one without a byte if there is none.
+    /// Returns the last character; one without a byte if there is none.
     pub(crate) fn newest(&self) -> Character
         ensures value { result ≡ newest_look self.now.characters }
         ensures some { AreSome self.now.characters }
@@ -136,7 +137,7 @@ impl EditedLine {
         self.take_while(words, false);
     }
 
-    /// Takes the whole half line away.
+    /// Takes the whole half-typed line away.
     pub(crate) fn clear(&mut self)
         ensures { self.new ≡ record { ahead = 0; held = []; characters = []; limit = self.old.limit } }
     {

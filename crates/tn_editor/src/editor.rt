@@ -32,7 +32,8 @@ pub struct Editor {
 }
 
 impl Editor {
-    /// An editor with an empty line. It makes the room for a whole line once, and wants no memory later.
+    /// Makes an editor with an empty line. It takes the room for a whole line once, and wants no
+    /// memory later.
     ///
     /// # Errors
     ///
@@ -54,8 +55,8 @@ impl Editor {
         })
     }
 
-    /// Sets the settings of the plain terminal and the editing keys. The half line stays as it is: characters that
-    /// were typed before stay characters. No memory is wanted.
+    /// Sets the settings of the plain terminal and the editing keys. The half-typed line stays as
+    /// it is: characters that were typed before stay characters. No memory is wanted.
     pub fn set(&mut self, settings: Settings, keys: EditKeys)
         ensures { (t u : Terminal) (e : Editing) → Holds t e self.old →
             u.canon.settings ≡ settings → u.keys ≡ keys → u.canon.limit ≡ t.canon.limit → Holds u e self.new }
@@ -64,9 +65,9 @@ impl Editor {
         self.keys = keys;
     }
 
-    /// Begins after a half line of `ahead` bytes, which were typed before. Nothing is known of these bytes: ERASE and
-    /// WERASE take back one of them if no other character is left, and KILL takes back all. If they are as many as
-    /// the limit, or more, the line counts as full.
+    /// Begins after a half-typed line of `ahead` bytes, which were typed before. Nothing is known
+    /// of these bytes: ERASE and WERASE take back one of them if no other character is left, and
+    /// KILL takes back all. If they are as many as the limit, or more, the line counts as full.
     pub fn resume(&mut self, ahead: u16)
         ensures { (t : Terminal) (e : Editing) (half : List ℕ) → Holds t e self.old →
             length half ≡ ahead → ahead < t.canon.limit → Holds t (after_half half) self.new }
@@ -76,22 +77,23 @@ impl Editor {
         self.refused = Character::none();
     }
 
-    /// The half line, without the bytes ahead.
+    /// Returns the half-typed line, without the bytes ahead.
     pub fn half_line(&self) -> &[u8]
         ensures { (t : Terminal) (e : Editing) → Holds t e self.now → line_bytes e ≡ e.ahead ++ result.now }
     {
         self.line.held()
     }
 
-    /// The role of a key that is typed next.
+    /// Returns the role of a key that is typed next.
     pub fn role(&self, key: u8) -> EditRole
         ensures { (t : Terminal) (e : Editing) → Holds t e self.now → result ≡ edit_role_of_key t key }
     {
         edit_role(&self.roles.settings(), &self.keys, self.roles.role(key))
     }
 
-    /// The KILL character, if there is one, and if each byte of this line joins a line as it is: KILL and these bytes,
-    /// typed as keys, then leave the line in place of the half line (`laws::an_earlier_line_comes_back`).
+    /// Returns the KILL character, if there is one, and if each byte of this line joins a line as
+    /// it is: KILL and these bytes, typed as keys, then leave the line in place of the half-typed
+    /// line (`laws::an_earlier_line_comes_back`).
     pub fn recalls(&self, line: &[u8]) -> Option<u8>
         ensures kill { (t : Terminal) (e : Editing) → Holds t e self.now →
             All (IsItself t) line.now → result ≡ t.canon.settings.chars.kill }
@@ -190,7 +192,7 @@ impl Editor {
         u16::from(self.line.bytes() == self.line.limit().bytes() - 1)
     }
 
-    // Whether there is room for the byte and for the whole character that it begins.
+    // Returns whether there is room for the byte and for the whole character that it begins.
     fn takes(&self, byte: u8) -> bool
         ensures { result ≡ is_taken self.now.keys.iutf8 self.now.line self.now.refused byte }
     {
@@ -229,14 +231,14 @@ impl Editor {
     }
 }
 
-// Whether a key of this role joins the line with this byte.
+// Returns whether a key of this role joins the line with this byte.
 fn joins(found: EditRole, byte: u8) -> bool
     ensures { (result ≡ true) ↔ (found ≡ edit_role.Plain (role.Ordinary byte)) }
 {
     found == EditRole::Plain(Role::Ordinary(byte))
 }
 
-// The key that is typed at the plain terminal.
+// Returns the key that is typed at the plain terminal.
 fn pressed(chars: &Chars, role: EditRole, key: u8) -> u8
     ensures { result ≡ becomes chars.now role key }
 {

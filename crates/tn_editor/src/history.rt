@@ -3,10 +3,10 @@
 use std::alloc::{AllocError, Global};
 use std::collections::VecDeque;
 
-/// How many lines are kept.
+/// The most lines that are kept.
 const MOST_LINES: usize = 100;
 
-/// How many bytes the kept lines have at most, all together.
+/// The most bytes that the kept lines have, all together.
 const MOST_BYTES: usize = 64 * 1024;
 
 /// The lines that a user typed before, the oldest first, and which of them the user looks at. At most 100 lines of
@@ -21,7 +21,7 @@ pub struct History {
 }
 
 impl History {
-    /// No line is kept, and no memory is wanted.
+    /// Makes a history that keeps no line, and wants no memory.
     pub fn new(alloc: Global) -> History {
         History {
             lines: VecDeque::new(alloc),
@@ -54,12 +54,12 @@ impl History {
         self.back = 0;
     }
 
-    /// Goes to the line before. `half` is the half line, which `down` brings back if it is the one being typed.
-    /// It is false if there is no line before.
+    /// Goes to the line before. `half` is the half-typed line, which `down` brings back if it is
+    /// the one being typed. It is false if there is no line before.
     ///
     /// # Errors
     ///
-    /// - Out of memory: the half line could not be kept, and nothing changes.
+    /// - Out of memory: the half-typed line could not be kept, and nothing changes.
     pub fn up(&mut self, half: &[u8]) -> Result<bool, AllocError> {
         if self.back >= self.lines.len() {
             return Ok(false);
@@ -71,14 +71,15 @@ impl History {
         Ok(true)
     }
 
-    /// Goes to the line after, which at last is the half line that `up` was given. It is false if there is none.
+    /// Goes to the line after, which at last is the half-typed line that `up` was given. It is
+    /// false if there is none.
     pub fn down(&mut self) -> bool {
         let is_back = self.back > 0;
         self.back = self.back.saturating_sub(1);
         is_back
     }
 
-    /// The line that the user looks at.
+    /// Returns the line that the user looks at.
     pub fn line(&self) -> &[u8] {
         let place = self.lines.len().checked_sub(self.back);
         match place.and_then(|place| self.lines.get(place)) {

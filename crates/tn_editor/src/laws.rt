@@ -11,8 +11,8 @@ ghost use Rattle.tn_editor.specs.Whole.{IsCharacter, IsWholeOrNone, bytes_typed}
 ghost use Rattle.tn_editor.specs.Expanding.{expanded, expanded_key, expanded_from, IsAsBefore};
 ghost use Rattle.tn_editor.specs.Changing.{Typed, typed_all, typed_gains, expanded_roles};
 
-/// For every list of keys, the keys that they become give at a plain terminal the entries, and leave the half
-/// line, that they give and leave at a terminal with the editing keys.
+/// For every list of keys, the keys that they become give at a plain terminal the entries, and
+/// leave the half-typed line, that they give and leave at a terminal with the editing keys.
 pub fn expanded_keys_edit_the_line()
     ensures entries { (t : Terminal) (keys : List ℕ) → AreAllowed t.canon.settings.chars →
         typed_entries t.canon (expanded t keys) ≡ edited_entries t keys }
@@ -20,9 +20,10 @@ pub fn expanded_keys_edit_the_line()
         typed_half t.canon (expanded t keys) ≡ edited_half t keys }
 {}
 
-/// For every list of roles, each typed while some editing keys were set, the roles that they become give at a plain
-/// terminal the entries, and leave the half line, that they give and leave at a terminal with the editing keys; also
-/// after a half line that other keys left there. So all settings may change within a line.
+/// For every list of roles, each typed while some editing keys were set, the roles that they become
+/// give at a plain terminal the entries, and leave the half-typed line, that they give and leave at
+/// a terminal with the editing keys; also after a half-typed line that other keys left there. So
+/// all settings may change within a line.
 pub fn expanded_roles_edit_the_line()
     ensures entries { (canon : Canon) (before : List Role) (typed : List Typed) →
         let e = after_half (half_of canon.limit before) in
@@ -33,9 +34,9 @@ pub fn expanded_roles_edit_the_line()
         half_of canon.limit (before ++ expanded_roles canon e typed) ≡ line_bytes (typed_all canon e typed) }
 {}
 
-/// If a line goes to a plain terminal once it ends, and a signal at once, that terminal gives the entries that a terminal
-/// with the editing keys gives, whatever was typed there before, if no half line was left. So all settings may change
-/// within a line.
+/// If a line goes to a plain terminal once it ends, and a signal at once, that terminal gives the
+/// entries that a terminal with the editing keys gives, whatever was typed there before, if no
+/// half-typed line was left. So all settings may change within a line.
 pub fn whole_lines_give_the_entries()
     ensures { (canon : Canon) (before : List Role) (typed : List Typed) → half_of canon.limit before ≡ [] →
         entries_of canon.limit (before ++ whole_lines canon nothing_typed typed)

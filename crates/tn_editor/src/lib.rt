@@ -1,6 +1,10 @@
-//! The editing keys of a user's terminal in front of a plain one. Each typed key becomes a key of the plain
-//! terminal, typed there not at all, once or several times: ERASE takes back a character of UTF-8, for which a
-//! plain terminal wants an ERASE a byte, WERASE takes back a word, and REPRINT only shows the line.
+//! The editing keys of a user's terminal in front of a plain one. Each typed key becomes a key of
+//! the plain terminal, typed there not at all, once or several times: ERASE takes back a character
+//! of UTF-8, for which a plain terminal wants an ERASE a byte, WERASE takes back a word, and
+//! REPRINT only shows the line.
+//!
+//! Begin with `Editor`, which turns typed keys into keys of the plain terminal, and `Drawn`, the
+//! half-typed line on a screen.
 //!
 //! ```
 //! let mut editor = Editor::new(alloc, Settings::standard(), edit_keys, Limit::standard())?;
@@ -9,8 +13,8 @@
 //! editor.key(0x7f); // the key 0x7f, twice
 //! ```
 //!
-//! The editor draws nothing: `Drawn` is the half line on a screen. `History` keeps the lines that were typed before,
-//! and `Arrows` recognizes the keys that ask for them. Only the history and what is drawn want memory.
+//! The editor draws nothing. `History` keeps the lines that were typed before, and `Arrows`
+//! recognizes the keys that ask for them. Only the history and the drawing want memory.
 #![tactic(auto)]
 
 pub use cursor_keys::{Arrow, Arrows, Pressed};

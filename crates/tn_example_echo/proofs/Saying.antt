@@ -1,4 +1,4 @@
--- What is said at one call after another.
+-- The bytes that are sent at one call after another.
 use Rattle.std.proofs.Common.{◌≡◌, ℕ, List, ◌++◌, sym, ap, ◌∙◌, subst, append_assoc}
 use Rattle.tn_nvt.specs.{Spelling.spells, declared.items.Item.Item}
 use Rattle.tn_nvt.proofs.lemmas.Reading.{spells-append}

@@ -12,7 +12,7 @@ use std::io::{ErrorKind, Read, Write};
 use tn_discipline::{Entry, Limit, Settings};
 use tn_server::{ServerEnd, ServerFault};
 
-/// How many entries may wait at one terminal.
+/// The most entries that may wait at one terminal.
 const MAX_WAITING: usize = 1_024;
 
 /// More symbols than a terminal's screen holds.
@@ -28,7 +28,8 @@ fn main(rt: HostRuntime) -> io::Result<()> {
     }
 }
 
-// Writes what there is to say, and then what each piece of the client's stream asks for, to its end.
+// Writes the opening messages, and then the answers to each piece of the client's stream, to its
+// end.
 fn serve<R: Read, W: Write>(
     end: &mut ServerEnd,
     out: &mut Vec<u8>,
@@ -64,7 +65,7 @@ fn answer(end: &mut ServerEnd, piece: &[u8], out: &mut Vec<u8>) -> Result<(), Se
     Ok(())
 }
 
-// Answers the first waiting entry: a line comes back. Returns false where none waits.
+// Answers the first waiting entry: a line comes back. Returns false if none waits.
 fn answer_next(end: &mut ServerEnd, out: &mut Vec<u8>) -> Result<bool, ServerFault>
     ensures says { OnOk result (SaysMore end.old out.old.items out.new.items end.new) }
     ensures echoes { OnOk result (Echoes end.old end.new) }

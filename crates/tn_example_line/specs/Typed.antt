@@ -24,6 +24,7 @@ abbrev pub TypesKey : ℕ → HalfLine → List Entry → HalfLine → List Entr
 TypesKey key old before new after =
     (keys : List ℕ) → HasTyped keys old before → HasTyped (keys ++ key ∷ []) new after
 
+-- an entry as it is printed
 abbrev pub shown : Entry → List ℕ
 shown (Text bytes) = bytes
 shown Eof = codes "(end of file)\n"

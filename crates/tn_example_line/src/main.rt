@@ -1,7 +1,8 @@
-//! A line editor: reads keys from standard input as they are typed at one terminal, and prints the lines
-//! that a program behind that terminal would read.
+//! A line editor: reads keys from standard input as they are typed at one terminal, and prints the
+//! lines that a program at that terminal would read.
 //!
-//! `printf 'helo\177lo\r'` piped into it prints `hello`: the user typed `helo`, ERASE, `lo`, return.
+//! `printf 'helo\177lo\r'` piped into it prints `hello`: the user typed `helo`, ERASE, `lo`,
+//! return.
 #![tactic(auto)]
 
 ghost use Rattle.std.specs.{Prelude.{◌≡◌, IfOk, OnOk}, Io.KnownBytes.Appends};
@@ -24,7 +25,7 @@ fn main(rt: HostRuntime) -> io::Result<()> {
     Ok(())
 }
 
-// The entries that a terminal with standard settings gives for these keys.
+// Returns the entries that a terminal with standard settings gives for these keys.
 fn entries_of_keys(alloc: Global, keys: &[u8]) -> Result<Vec<Entry>, AllocError>
     ensures { IfOk result (λ entries. entries.items ≡ typed_entries standard keys.now) }
 {

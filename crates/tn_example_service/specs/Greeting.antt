@@ -1,12 +1,14 @@
--- What the job says.
+-- The job's text.
 use Rattle.std.specs.Prelude.{◌≡◌, ℕ, Option, Some, None, List, ◌++◌, codes}
 use Rattle.tn_discipline.specs.declared.reads.Entry.{Entry, TheVariants.{Text, Eof, Signal}}
 use Rattle.tn_jobs.specs.declared.{reactions.Reaction.Reaction, verdicts.After.After}
 use Rattle.tn_jobs.specs.declared.verdicts.After.TheVariants.{Done, Hide, Show}
 
+-- a reaction with this text
 abbrev pub says : List ℕ → After → Reaction
 says words after = record { text = words; after = after }
 
+-- the reaction that ends the session
 abbrev pub bye : Reaction
 bye = says (codes "bye\n") Done
 

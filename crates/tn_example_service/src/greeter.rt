@@ -19,7 +19,7 @@ pub(crate) struct Greeter {
 }
 
 impl Greeter {
-    /// A job that has asked for no password yet.
+    /// Makes a job that has asked for no password yet.
     pub(crate) fn new(hook: Option<Hook>) -> Greeter
         ensures { result.name ≡ None }
     {
@@ -70,13 +70,13 @@ impl Job for Greeter {
         }
     }
 
-    // It stands in the foreground, and so this is never asked for.
+    // The job stands in the foreground, so no step is ever asked for.
     fn step(&mut self, alloc: Global) -> Result<Reaction, AllocError> {
         say(alloc, b"bye\n", b"", After::Done)
     }
 }
 
-// Says both texts, one after the other.
+// Returns both texts, one after the other.
 fn say(alloc: Global, first: &[u8], rest: &[u8], after: After) -> Result<Reaction, AllocError>
     ensures { IfOk result (λ reaction. reaction ≡ says (first.now ++ rest.now) after) }
 {

@@ -17,7 +17,7 @@ mod greeter;
 #[cfg(test)]
 mod tests;
 
-/// The status if nothing can be served, and the one for wrong words.
+/// The status if nothing can be served, and the one for wrong arguments.
 const UNSERVED: u8 = 1;
 
 const WRONG_WORDS: u8 = 2;
@@ -55,13 +55,13 @@ fn main(rt: HostRuntime) -> ExitCode {
     }
 }
 
-// The port that the first argument names.
+// Returns the port that the first argument names.
 fn port_of(rt: &HostRuntime, alloc: Global) -> Option<u16> {
     let words: Vec<String> = env::args(rt).ok()?.collect(alloc).ok()?;
     words.get(1)?.as_str().parse::<u16>().ok()
 }
 
-/// What each user reads first.
+/// The text that each user reads first.
 const FIRST: &[u8] = b"name?\n";
 
 /// Gives each session a job of its own, whose user reads `FIRST` first. What a job waits for wants the handle.

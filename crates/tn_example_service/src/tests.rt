@@ -1,4 +1,4 @@
-//! What the job answers.
+//! The answers of the job.
 
 use crate::greeter::Greeter;
 use std::alloc::{AllocError, Global};

@@ -20,7 +20,7 @@ has_no_foreground (Some Background ∷ jobs) none = has_no_foreground jobs (λ i
 has_no_foreground (Some (Stopped why) ∷ jobs) none = has_no_foreground jobs (λ id. none (suc id))
 has_no_foreground (Some Ended ∷ jobs) none = has_no_foreground jobs (λ id. none (suc id))
 
--- the kept number tells whether a job is in the foreground
+-- the kept number shows whether a job is in the foreground
 pub is_some-foreground : (jobs : Jobs) (foreground : Option ℕ) → NamesForeground jobs foreground → is_some foreground ≡ has_foreground jobs
 is_some-foreground jobs (Some id) names = let there = has_foreground_at jobs id ((names id).0 refl) in cc
 is_some-foreground jobs None names =

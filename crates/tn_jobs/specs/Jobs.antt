@@ -5,14 +5,15 @@ use Rattle.tn_jobs.specs.declared.{verdicts.JobState.JobState, held_jobs.JobFaul
 use Rattle.tn_jobs.specs.declared.verdicts.JobState.TheVariants.{Foreground, Background, Stopped, Ended}
 use Rattle.tn_jobs.specs.declared.held_jobs.JobFault.TheVariants.{NoSuchJob, WrongState, Full, Memory}
 
+-- the jobs by their numbers, each with its state, if it is held
 abbrev pub Jobs : Type 0
 Jobs = List (Option JobState)
 
--- the state of a number's job, where the number is held
+-- the state of a number's job, if the number is held
 abbrev pub state_at : Jobs → ℕ → Option JobState
 state_at jobs id = slice_index_or jobs id None
 
--- how many numbers are held
+-- the number of numbers that are held
 abbrev pub held_count : Jobs → ℕ
 held_count jobs = count_by is_some jobs
 
@@ -20,6 +21,7 @@ held_count jobs = count_by is_some jobs
 abbrev pub with_state : Jobs → ℕ → Option JobState → Jobs
 with_state jobs id state = slice_set jobs id state
 
+-- the job is in the foreground
 abbrev pub is_foreground : Option JobState → Bool
 is_foreground None = false
 is_foreground (Some Foreground) = true
@@ -27,6 +29,7 @@ is_foreground (Some Background) = false
 is_foreground (Some (Stopped why)) = false
 is_foreground (Some Ended) = false
 
+-- some job is in the foreground
 abbrev pub has_foreground : Jobs → Bool
 has_foreground jobs = list_any is_foreground jobs
 
@@ -41,6 +44,7 @@ pub record IsTable (jobs : Jobs) : Type 0 where
 abbrev pub NamesForeground : Jobs → Option ℕ → Type 0
 NamesForeground jobs foreground = (id : ℕ) → (foreground ≡ Some id) ↔ (state_at jobs id ≡ Some Foreground)
 
+-- this is the number, if there is one
 abbrev pub is_number : Option ℕ → ℕ → Bool
 is_number None id = false
 is_number (Some number) id = number == id
@@ -57,27 +61,30 @@ pub record Adds (old new : Jobs) (id : ℕ) : Type 0 where
   pub others : (other : ℕ) → other ≢ id → state_at new other ≡ state_at old other
   pub held_more : held_count new ≡ held_count old + 1
 
--- why no job can be added, where none can
+-- why no job can be added, if none can
 abbrev pub add_fault : Jobs → JobFault
 add_fault jobs = if held_count jobs == 16 then Full else Memory
 
+-- the fault of a job in the wrong state
 abbrev pub wrong_if : Bool → Option JobFault
 wrong_if true = Some WrongState
 wrong_if false = None
 
+-- the job is in the background
 abbrev pub is_background : JobState → Bool
 is_background Foreground = false
 is_background Background = true
 is_background (Stopped why) = false
 is_background Ended = false
 
+-- the job is stopped
 abbrev pub is_stopped : JobState → Bool
 is_stopped Foreground = false
 is_stopped Background = false
 is_stopped (Stopped why) = true
 is_stopped Ended = false
 
--- why a job can't be moved: its number isn't held, or its state forbids it
+-- why a job cannot be moved: its number is not held, or its state forbids it
 abbrev pub fault_by : (JobState → Bool) → Option JobState → Option JobFault
 fault_by wrong None = Some NoSuchJob
 fault_by wrong (Some state) = wrong_if (wrong state)
@@ -86,11 +93,14 @@ fault_by wrong (Some state) = wrong_if (wrong state)
 abbrev pub foreground_fault : Jobs → ℕ → Option JobFault
 foreground_fault jobs id = fault_by (λ _. has_foreground jobs) (state_at jobs id)
 
+-- why this job cannot go on in the background, if it cannot
 abbrev pub background_fault : Jobs → ℕ → Option JobFault
 background_fault jobs id = fault_by is_background (state_at jobs id)
 
+-- why this job cannot be stopped, if it cannot
 abbrev pub stopped_fault : Jobs → ℕ → Option JobFault
 stopped_fault jobs id = fault_by is_stopped (state_at jobs id)
 
+-- why this job cannot be taken out, if it cannot
 abbrev pub done_fault : Jobs → ℕ → Option JobFault
 done_fault jobs id = fault_by (λ _. false) (state_at jobs id)

@@ -6,6 +6,7 @@ use Rattle.tn_jobs.specs.declared.verdicts.{JobState.JobState, Why.TheVariants.{
 use Rattle.tn_jobs.specs.declared.verdicts.JobState.TheVariants.{Foreground, Background, Stopped, Ended}
 use Rattle.tn_jobs.specs.declared.verdicts.Verdict.{Verdict}
 
+-- whether the text is written, and the next state
 abbrev pub verdict : Bool → JobState → Option Verdict
 verdict write next = Some (record { write = write; next = next })
 

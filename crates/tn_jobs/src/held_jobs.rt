@@ -12,14 +12,14 @@ use std::alloc::Global;
 use std::marker::Model;
 use thiserror::Error;
 
-/// A table never holds more jobs than this.
+/// The most jobs that a table holds.
 pub const MAX_JOBS: usize = 16;
 
 /// The number of a held job. It may be given to another job once this one is done.
 #[derive(Clone, Copy, Debug, PartialEq, Eq)]
 pub struct JobId(pub usize);
 
-/// Why a table did not do as it was told.
+/// The reason why a table refused a call.
 #[derive(Clone, Copy, Debug, PartialEq, Eq, Error)]
 pub enum JobFault {
     #[error("no such job")]
@@ -52,7 +52,7 @@ impl Model for Table {
 }
 
 impl Table {
-    /// A table with no job. It takes no memory until a job is added.
+    /// Makes a table with no job. It takes no memory until a job is added.
     pub fn new(alloc: Global) -> Table
         ensures { result ≡ [] }
     {
@@ -84,8 +84,14 @@ impl Table {
         }
     }
 
-    /// Brings a job to the foreground, where no job is there yet, this one included: `WrongState` where
-    /// one is, `NoSuchJob` where the number isn't held.
+    /// Brings a job to the foreground.
+    ///
+    /// # Errors
+    ///
+    /// After an error the table is as it was.
+    ///
+    /// - `WrongState`: a job is in the foreground already, be it this one.
+    /// - `NoSuchJob`: the number is not held.
     pub fn foreground(&mut self, id: JobId) -> Result<(), JobFault>
         ensures fault { result_err result ≡ foreground_fault self.old id.0 }
         ensures ok { OnOk result (self.new ≡ with_state self.old id.0 (Some JobState.Foreground)) }
@@ -101,8 +107,14 @@ impl Table {
         }
     }
 
-    /// Lets a job go on in the background, from the foreground or from a stop: `WrongState` where it
-    /// is there already, `NoSuchJob` where the number isn't held.
+    /// Lets a job go on in the background, from the foreground or from a stop.
+    ///
+    /// # Errors
+    ///
+    /// After an error the table is as it was.
+    ///
+    /// - `WrongState`: the job is in the background already.
+    /// - `NoSuchJob`: the number is not held.
     pub fn background(&mut self, id: JobId) -> Result<(), JobFault>
         ensures fault { result_err result ≡ background_fault self.old id.0 }
         ensures ok { OnOk result (self.new ≡ with_state self.old id.0 (Some JobState.Background)) }
@@ -118,8 +130,14 @@ impl Table {
         }
     }
 
-    /// Stops a job that runs: `WrongState` where it is stopped already, `NoSuchJob` where the number
-    /// isn't held.
+    /// Stops a job that runs.
+    ///
+    /// # Errors
+    ///
+    /// After an error the table is as it was.
+    ///
+    /// - `WrongState`: the job is stopped already.
+    /// - `NoSuchJob`: the number is not held.
     pub fn stopped(&mut self, id: JobId, why: Why) -> Result<(), JobFault>
         ensures fault { result_err result ≡ stopped_fault self.old id.0 }
         ensures ok { OnOk result (self.new ≡ with_state self.old id.0 (Some (JobState.Stopped why))) }
@@ -135,7 +153,11 @@ impl Table {
         }
     }
 
-    /// Takes a job out, whatever its state, and frees its number: `NoSuchJob` where it isn't held.
+    /// Takes a job out, in any state, and frees its number.
+    ///
+    /// # Errors
+    ///
+    /// - `NoSuchJob`: the number is not held; the table is as it was.
     pub fn done(&mut self, id: JobId) -> Result<(), JobFault>
         ensures fault { result_err result ≡ done_fault self.old id.0 }
         ensures ok { OnOk result (self.new ≡ with_state self.old id.0 None) }
@@ -152,7 +174,7 @@ impl Table {
         }
     }
 
-    /// The state of a job, which is never `Ended`; `None` where no job has the number.
+    /// Returns the state of a job, which is never `Ended`; `None` if no job has the number.
     pub fn state(&self, id: JobId) -> Option<JobState>
         ensures state { result ≡ state_at self.now id.0 }
         ensures sound { IsTable self.now }
@@ -177,7 +199,7 @@ impl Table {
     }
 }
 
-// The number of the foreground job once this number has this state.
+// Returns the number of the foreground job once this number has this state.
 fn foreground_after(foreground: Option<usize>, id: usize, state: Option<JobState>) -> Option<usize>
     ensures { result ≡ foreground_after foreground id state }
 {

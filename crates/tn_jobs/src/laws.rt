@@ -1,11 +1,11 @@
-//! Laws of a table of jobs, over the definitions alone.
+//! Laws of a table of jobs, only over the definitions.
 
 ghost use Rattle.std.specs.Prelude.{◌≡◌, ◌≢◌, ◌+◌, ℕ, Option, Some, None};
 ghost use Rattle.tn_jobs.specs.Jobs.{Jobs, state_at, with_state, held_count};
 ghost use Rattle.tn_jobs.specs.declared.verdicts.JobState.{JobState};
 
-/// A change at a held number is a change of that job alone: the others keep their states, and the
-/// number stays held unless its job is taken out.
+/// A change at a held number changes only that job: the others keep their states, and the number
+/// stays held unless its job is taken out.
 pub fn one_job_changes()
     ensures changed { (jobs : Jobs) (id : ℕ) (old : JobState) (state : Option JobState)
         → state_at jobs id ≡ Some old → state_at (with_state jobs id state) id ≡ state }

@@ -1,5 +1,8 @@
-//! Jobs of a terminal: which one is in the foreground, and what becomes of a job that reads, writes,
-//! stops or ends.
+//! The jobs of a terminal: which one is in the foreground, and what becomes of a job that reads,
+//! writes, stops or ends.
+//!
+//! Begin with `Job`, the trait that a service implements, and `Reaction`, which is what a job
+//! returns. `Table` holds the jobs of a terminal by their numbers:
 //!
 //! ```
 //! let mut jobs = Table::new(alloc);

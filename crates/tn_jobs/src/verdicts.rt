@@ -1,27 +1,29 @@
-//! What becomes of a job after each of its steps (POSIX.1-2017, XBD 11.1.4).
+//! The judgement of a job after each of its steps (POSIX.1-2017, XBD 11.1.4).
 
 ghost use Rattle.std.specs.Prelude.{◌≡◌};
 ghost use Rattle.tn_jobs.specs.Judging.{echo_asked, judged};
 
-/// What a job does next, after the text that it wrote.
+/// The next action of a job, after the text that it wrote.
 #[derive(Clone, Copy, Debug, PartialEq, Eq)]
 pub enum After {
-    /// It goes on.
+    /// The job goes on.
     Stay,
-    /// It reads from the terminal.
+    /// The job reads from the terminal.
     WantsInput,
-    /// It ends.
+    /// The job ends.
     Done,
-    /// It stops itself, as at the signal of the SUSP character.
+    /// The job stops itself, as at the signal of the SUSP character.
     Stop,
-    /// It goes on, and what is typed from now on is not echoed, as while a password is typed.
+    /// The job goes on, and keys that are typed from then on are not echoed, as while a password is
+    /// typed.
     Hide,
-    /// It goes on, and what is typed from now on is echoed.
+    /// The job goes on, and keys that are typed from then on are echoed.
     Show,
 }
 
 impl After {
-    /// Whether what is typed from now on is to be echoed. `None` leaves the echo as it is.
+    /// Returns whether keys that are typed from then on are to be echoed. `None` leaves the echo as
+    /// it is.
     pub fn echo(self) -> Option<bool>
         ensures { result ≡ echo_asked self }
     {
@@ -33,36 +35,36 @@ impl After {
     }
 }
 
-/// Where a job stands.
+/// The state of a job.
 #[derive(Clone, Copy, Debug, PartialEq, Eq)]
 pub enum JobState {
     Foreground,
     Background,
     Stopped(Why),
-    /// It is over: a state that a verdict names and that no held job has.
+    /// The job is over: a state that a verdict names and that no held job has.
     Ended,
 }
 
 /// The signal that stopped a job.
 #[derive(Clone, Copy, Debug, PartialEq, Eq)]
 pub enum Why {
-    /// It stopped itself.
+    /// The job stopped itself.
     Tstp,
-    /// It read from the background.
+    /// The job read from the background.
     Ttin,
-    /// It wrote from the background while TOSTOP was set.
+    /// The job wrote from the background while TOSTOP was set.
     Ttou,
 }
 
-/// Whether a step's text reaches the terminal, and where the job stands after it.
+/// Whether a step's text reaches the terminal, and the job's state after it.
 #[derive(Clone, Copy, PartialEq, Eq)]
 pub struct Verdict {
     pub write: bool,
     pub next: JobState,
 }
 
-/// Judges one step of a job: it wrote a text or none, and does something next. `tostop` is the
-/// terminal's flag. There is no verdict on a job that is stopped or has ended.
+/// Judges one step of a job, which wrote a text or none, and does something next. `tostop` is the
+/// terminal's flag. A job that is stopped or has ended gets no verdict, `None`.
 pub fn judge(state: JobState, wrote: bool, after: After, tostop: bool) -> Option<Verdict>
     ensures { result ≡ judged state wrote after tostop }
 {

@@ -76,7 +76,7 @@ above_zero _ = refl
 special_at-code : (k : Func) → is_settable k ≡ true → special_at (func_code k) ≡ Some k
 special_at-code k settable = finds (λ f. func_code f == func_code k) k special_functions settable (is_same-refl k) (λ f e. same_function f k e)
 
--- a triple says what it is made of
+-- a triple means what it is made of
 pub says-triple_of : (k : Func) (v : Option ℕ) → is_settable k ≡ true → is_set_to v 255 ≡ false → saying_of (triple_of k v) ≡ saying.Character k v
 says-triple_of k None settable other =
     ap (λ (zero : Bool). if zero then saying.Nothing else saying_of_function (special_at (func_code k)) level.NoSupport (func_code k) 0) (above_zero k)
@@ -99,7 +99,7 @@ client_next-own s c k allowed settable =
 abbrev told : Characters → List Func → List Triple
 told s ks = map (λ k. triple_of k (slot s k)) ks
 
--- a function that was told, or agreed before, agrees after
+-- a function that was announced, or agreed before, agrees after
 told_agrees : (s : Characters) (ks : List Func) (c : Characters) (f : Func) → AreAllowed s → list_all is_settable ks ≡ true → (is_among f ks ≡ true)
     ⊎ (slot c f ≡ slot s f) → slot (client_after c (told s ks)) f ≡ slot s f
 unfolding client_after

@@ -14,7 +14,7 @@ use Rattle.tn_linemode.specs.Exchange.{server_answers, server_is_asked, asks_for
 use Rattle.tn_linemode.specs.declared.triples.Saying.TheVariants as saying
 use Rattle.tn_linemode.proofs.{Announcing.says-triple_of, Offers.says_offer}
 
--- A TRIPLE THAT ENDS AN EXCHANGE: an acknowledgement, or one that says nothing
+-- A TRIPLE THAT ENDS AN EXCHANGE: an acknowledgement, or one that means nothing
 abbrev IsFinal : Triple → Type 0
 IsFinal t = (has_ack t ≡ true) ⊎ (saying_of t ≡ saying.Nothing)
 
@@ -75,7 +75,7 @@ nothing_if : (test : Bool) (s : Saying) → s ≡ saying.Nothing → (if test th
 nothing_if true s e = refl
 nothing_if false s e = e
 
--- so to say that it is not supported says nothing
+-- a triple that answers "unsupported" means nothing
 unsupported_says : (code : ℕ) → special_at code ≡ None → saying_of (unsupported_triple code) ≡ saying.Nothing
 unsupported_says code none =
     nothing_if (code == 0) _ (ap (λ o. saying_of_function o level.NoSupport code 0) none)
@@ -148,7 +148,7 @@ changes_nothing c s ts = same_table s (client_answers c ts) (client_answers-fina
 pub asks_for_none : (c : Characters) (ts : List Triple) → server_is_asked (client_answers c ts) ≡ false
 asks_for_none c ts = asks_not (client_answers c ts) (client_answers-final c ts)
 
--- A SERVER THAT HEARS ITS OWN ANSWERS
+-- A SERVER THAT RECEIVES ITS OWN ANSWERS
 -- a triple that a table has already is skipped
 abbrev IsSilent : Characters → Triple → Type 0
 IsSilent c t = (server_answer c t ≡ None) × (server_next c t ≡ c)
@@ -181,7 +181,7 @@ own_value : (v : Option ℕ) → ((b : ℕ) → v ≡ Some b → is_reserved b �
 own_value None fine = refl
 own_value (Some b) fine = let ok : is_reserved b ≡ false = fine b refl in grind arith
 
--- what is answered: an acknowledgement, or what the table has and keeps
+-- the answer: an acknowledgement, or the character that the table has and keeps
 abbrev Reply : Characters → Saying → Option Triple → Type 0
 Reply c s None = Unit {0}
 Reply c s (Some a) = (has_ack a ≡ true) ⊎ ((server_takes c s ≡ c) × IsSilent c a)
@@ -202,7 +202,7 @@ server_reply c (saying.Character f v) allowed h offers =
 server_reply c (saying.Unsupported code) allowed h offers = inr (refl, silent_final c (unsupported_triple code) (inr (unsupported_says code (h code refl))))
 server_reply c saying.Nothing allowed h offers = tt
 
--- how many triples acknowledge nothing
+-- the number of triples that acknowledge nothing
 abbrev open_if : Bool → ℕ
 open_if true = 0
 open_if false = 1
@@ -253,7 +253,7 @@ settles_open c d t ts us (Some a) is h few later =
       ]
     ]
 
--- the same once the table after the first triple is named
+-- an exchange settles once the table after the first triple is named
 settles_by : (c : Characters) (t : Triple) (ts : List Triple) (acks : Bool) → has_ack t ≡ acks → AreAllowed c
     → Settles c ts (server_after c ts) (server_answers c ts)
     → Settles c (t ∷ ts) (server_after (if acks then c else server_takes c (saying_of t)) ts)

@@ -1,4 +1,4 @@
--- What a triple can say of a function that has a character, and what is said in answer.
+-- The meanings that a triple can have for a function with a character, and the answers to them.
 use Rattle.std.proofs.Common.{◌≡◌, ℕ, Bool, true, false, ◌||◌, ◌==◌, Option, Some, None, is_none, List, [], ◌∷◌, refl, sym, ap, subst, ◌∙◌, if◌then◌else◌}
 use Rattle.std.proofs.Common.{arith}
 use Rattle.tn_codes.specs.{Codes.func_code, declared.{codes.{Func.Func, Level.Level}, triples.Triple.Triple}}
@@ -14,7 +14,7 @@ use Rattle.tn_linemode.specs.declared.triples.Saying.TheVariants as saying
 use Rattle.tn_discipline.proofs.lemmas.Functions.{found}
 use Rattle.tn_linemode.proofs.Taking.{slot-without, accepts_offer}
 
--- what a triple says of a function with a character is an offer
+-- a triple about a function with a character is an offer
 abbrev Settable : Option Func → Type 0
 Settable o = (f : Func) → o ≡ Some f → is_settable f ≡ true
 
@@ -59,7 +59,7 @@ either_offer : (zero : Bool) (all one : Saying) (f : Func) (character : Option �
 either_offer true all one f character from_all from_one e = from_all e
 either_offer false all one f character from_all from_one e = from_one e
 
--- what a triple says of a function with a character is an offer
+-- a triple about a function with a character is an offer
 pub says_offer : (t : Triple) (f : Func) (character : Option ℕ) → saying_of t ≡ saying.Character f character → IsOffer f character
 says_offer t f character e =
     either_offer (t.func == 0) _ _ f character (all_offer (level_of t) (t.value == 0) f character)
@@ -176,7 +176,7 @@ speaks t =
     speaks_either t.func (t.func == 0) _ _ (speaks_all (level_of t) (t.value == 0) t.func)
     (speaks_of (special_at t.func) (level_of t) t.func t.value (names_at t.func))
 
--- what is answered, where something is
+-- the answer, if there is one
 abbrev AllAnswer : Triple → Option Triple → Type 0
 AllAnswer t None = Unit {0}
 AllAnswer t (Some a) = Answers t a

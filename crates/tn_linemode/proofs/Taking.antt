@@ -1,4 +1,4 @@
--- What a client's table is after it took a character.
+-- A client's table after it took a character.
 use Rattle.std.proofs.Common.{◌≡◌, ◌≢◌, ℕ, Bool, true, false, not, ◌&&◌, Option, Some, None, List, [], ◌∷◌, refl, sym, ap, ◌∙◌, arith}
 use Rattle.std.specs.List.{list_any}
 use Rattle.tn_codes.specs.declared.codes.Func.{Func}

@@ -1,5 +1,5 @@
--- The exchange of local characters (RFC 1184, section 2.4): what each end makes of the other's triples, and
--- what it answers. Where the RFC leaves a choice, it is this project's own.
+-- The exchange of local characters (RFC 1184, section 2.4): how each end takes the other's triples, and how
+-- it answers them. If the RFC leaves a choice, the choice is this project's own.
 use Rattle.std.specs.Prelude.{◌≡◌, ◌≢◌, ℕ, ◌==◌, Bool, true, false, not, ◌&&◌, ◌||◌, Option, Some, None}
 use Rattle.std.specs.Prelude.{is_none, option_to_list, List, [], ◌∷◌, ◌++◌, map, fold, if◌then◌else◌}
 use Rattle.std.specs.List.{list_any}
@@ -10,7 +10,7 @@ use Rattle.tn_linemode.specs.declared.triples.Saying.{Saying, TheVariants.Nothin
 use Rattle.tn_linemode.specs.declared.triples.Saying.TheVariants.{Standard, Table, Character, Unsupported}
 use Rattle.tn_linemode.specs.Triples.{has_ack, saying_of, triple_of, acknowledged_triple, unsupported_triple}
 
--- the same character, or none at both
+-- both are one character, or none
 abbrev pub is_same_value : Option ℕ → Option ℕ → Bool
 is_same_value None None = true
 is_same_value None (Some b) = false
@@ -29,7 +29,8 @@ server_takes c (Character f value) = if is_none (char_fault c f value) then with
 server_takes c (Unsupported code) = c
 server_takes c Nothing = c
 
--- and acknowledges it, or else tells its own; what it has already, it passes over
+-- the server acknowledges a character that it takes, and else answers with its own; it passes over one that
+-- it has already
 abbrev pub server_replies : Characters → Saying → Option Triple
 server_replies c Standard = None
 server_replies c Table = None
@@ -40,6 +41,7 @@ server_replies c (Character f value) =
 server_replies c (Unsupported code) = Some (unsupported_triple code)
 server_replies c Nothing = None
 
+-- the meaning requests the whole table
 abbrev pub wants_table : Saying → Bool
 wants_table Standard = true
 wants_table Table = true
@@ -52,9 +54,11 @@ wants_table Nothing = false
 abbrev pub server_next : Characters → Triple → Characters
 server_next c t = if has_ack t then c else server_takes c (saying_of t)
 
+-- the server's answer to a triple: none to an acknowledgement
 abbrev pub server_answer : Characters → Triple → Option Triple
 server_answer c t = if has_ack t then None else server_replies c (saying_of t)
 
+-- the triple requests the whole table, and is no acknowledgement
 abbrev pub asks_for_table : Triple → Bool
 asks_for_table t = not (has_ack t) && wants_table (saying_of t)
 
@@ -63,7 +67,7 @@ abbrev pub is_line_end : Option ℕ → Bool
 is_line_end None = false
 is_line_end (Some value) = value == 10 || value == 13
 
--- a character that is disabled where it is this byte
+-- a character, which is disabled if it is this byte
 abbrev pub cleared_character : Option ℕ → ℕ → Option ℕ
 cleared_character character byte = if is_set_to character byte then None else character
 
@@ -72,7 +76,7 @@ abbrev pub without_character : Characters → Option ℕ → Characters
 without_character c None = c
 without_character c (Some byte) = with_each (λ character. cleared_character character byte) c
 
--- it takes every other character, and another function that had it loses it
+-- the client takes every other character, and another function that had it loses it
 abbrev pub client_takes : Characters → Saying → Characters
 client_takes c Standard = c
 client_takes c Table = c
@@ -81,7 +85,7 @@ client_takes c (Character f value) =
 client_takes c (Unsupported code) = c
 client_takes c Nothing = c
 
--- and acknowledges what changed
+-- the client acknowledges a triple that changed its table
 abbrev pub client_replies : Characters → Saying → Option Triple
 client_replies c Standard = None
 client_replies c Table = None
@@ -95,6 +99,7 @@ client_replies c Nothing = None
 abbrev pub client_next : Characters → Triple → Characters
 client_next c t = client_takes c (saying_of t)
 
+-- the client's answer to a triple: none to an acknowledgement
 abbrev pub client_answer : Characters → Triple → Option Triple
 client_answer c t = if has_ack t then None else client_replies c (saying_of t)
 
@@ -108,18 +113,23 @@ unfoldable pub answers_along : {T : Type 0} → (T → Triple → T) → (T → 
 answers_along next answer c [] = []
 answers_along next answer c (t ∷ ts) = option_to_list (answer c t) ++ answers_along next answer (next c t) ts
 
+-- the server's table after a list of triples
 unfoldable pub server_after : Characters → List Triple → Characters
 server_after c ts = table_after server_next c ts
 
+-- the server's answers to a list of triples
 unfoldable pub server_answers : Characters → List Triple → List Triple
 server_answers c ts = answers_along server_next server_answer c ts
 
+-- a list of triples requests the whole table
 unfoldable pub server_is_asked : List Triple → Bool
 server_is_asked ts = list_any asks_for_table ts
 
+-- the client's table after a list of triples
 unfoldable pub client_after : Characters → List Triple → Characters
 client_after c ts = table_after client_next c ts
 
+-- the client's answers to a list of triples
 unfoldable pub client_answers : Characters → List Triple → List Triple
 client_answers c ts = answers_along client_next client_answer c ts
 

@@ -1,4 +1,4 @@
--- A machine that goes by steps: its state after some events, one after another, and what it says at them.
+-- A machine that goes by steps: its state after some events, one after another, and what it sends at them.
 use Rattle.std.specs.Prelude.{List, [], ◌∷◌, ◌++◌}
 
 module _ {S E : Type 0} (step : S → E → S) where

@@ -1,4 +1,4 @@
--- Fronts: of what was to be said, and of a stream.
+-- Fronts: of the items to be sent, and of a stream.
 use Rattle.std.specs.Prelude.{◌≡◌, ℕ, List, [], ◌∷◌, ◌++◌}
 use Rattle.tn_nvt.specs.{Spelling.spells, Feeding.{DecoderState, KeepsParameter}, Stream.Reading}
 use Rattle.tn_nvt.specs.declared.items.Item.{Item}

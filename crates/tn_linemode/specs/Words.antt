@@ -1,4 +1,4 @@
--- What either end says as items, and what a subnegotiation says to it.
+-- The items that either end sends, and how it reads a subnegotiation.
 use Rattle.std.specs.Prelude.{◌≡◌, ◌≢◌, ℕ, Bool, true, false, not, ◌&&◌, nat_le, Option, Some, None, List, []}
 use Rattle.std.specs.Prelude.{◌∷◌, length, if◌then◌else◌}
 use Rattle.tn_codes.specs.{PayloadOf.payload_of, Payloads.{option_of, parameters_of}}
@@ -6,7 +6,7 @@ use Rattle.tn_codes.specs.declared.{codes.Verb.Verb, payloads.Payload.{Payload, 
 use Rattle.tn_codes.specs.declared.triples.Triple.{Triple}
 use Rattle.tn_nvt.specs.{Spelling.max_parameters, declared.items.Item.{Item, TheVariants.{Neg, Sub}}}
 
--- an option word (RFC 855)
+-- an option message (RFC 855)
 abbrev pub word_items : Option (Verb × ℕ) → List Item
 word_items None = []
 word_items (Some said) = Neg said.0 said.1 ∷ []
@@ -15,6 +15,7 @@ word_items (Some said) = Neg said.0 said.1 ∷ []
 abbrev pub payload_items : Payload → List Item
 payload_items payload = Sub (option_of payload) (parameters_of payload) ∷ []
 
+-- a MODE with this mask, if there is one
 abbrev pub mode_items : Option ℕ → List Item
 mode_items None = []
 mode_items (Some mask) = payload_items (Mode mask)
@@ -24,7 +25,7 @@ abbrev pub list_items : List Triple → List Item
 list_items [] = []
 list_items (triple ∷ triples) = payload_items (Slc (triple ∷ triples))
 
--- RFC 855: what a subnegotiation says where its option is on. None of a stream has more parameters
+-- RFC 855: the payload of a subnegotiation, if its option is on. None of a stream has more parameters
 abbrev pub payload_under : Bool → ℕ → List ℕ → Option Payload
 payload_under on option params =
     if on && nat_le (length params) max_parameters then payload_of option params else None

@@ -22,7 +22,11 @@ pub trait Reacts {
         ensures answer { result ≡ answer self.old triple };
 }
 
-/// Takes a list of triples, and appends the answers to it. After a refusal nothing has changed.
+/// Takes a list of triples, and appends the answers to it, at most one for each triple.
+///
+/// # Errors
+///
+/// - `AllocError`: there is no memory for the answers; neither the table nor `answers` has changed.
 pub fn react_whole<T: Reacts + Copy>(
     table: &mut T,
     triples: &[Triple],

@@ -24,7 +24,7 @@ impl Model for ClientMode {
 }
 
 impl ClientMode {
-    /// No editing, and no signals as commands.
+    /// Makes the mode with which a client begins: no editing, and no signals as commands.
     pub fn new() -> Self
         ensures { result ≡ 0 }
     {
@@ -33,8 +33,9 @@ impl ClientMode {
         }
     }
 
-    /// Takes a mask from the server, which acknowledges nothing, and returns the mask to send back
-    /// where the mode changed.
+    /// Takes a mask from the server, and returns the mask to send back if the mode changed: it has
+    /// MODE_ACK, and so acknowledges the server's. A mask that has MODE_ACK itself changes nothing
+    /// (RFC 1184, section 2.2).
     pub fn got(&mut self, mask: u8) -> Option<u8>
         ensures mode { self.new ≡ client_mask_after self.old mask }
         ensures answer { result ≡ mode_answer self.old mask }
@@ -47,14 +48,14 @@ impl ClientMode {
         Some(mode.mask() | MODE_ACK)
     }
 
-    /// The mode in force.
+    /// Returns the mode in force.
     pub fn current(&self) -> Mode
         ensures { result ≡ self.now }
     {
         self.current
     }
 
-    /// LINEMODE went off.
+    /// Resets the mode, since LINEMODE went off.
     pub fn reset(&mut self)
         ensures { self.new ≡ 0 }
     {

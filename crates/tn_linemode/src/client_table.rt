@@ -13,8 +13,8 @@ use std::marker::Model;
 use tn_codes::{Func, Triple};
 use tn_discipline::{CharFault, Chars};
 
-/// The special characters as the client has them. It takes what the server says, and acknowledges
-/// what that changed.
+/// The special characters as the client has them. The client takes those that the server sends, and
+/// acknowledges each that changes its table.
 #[derive(Clone, Copy, PartialEq, Eq)]
 pub struct ClientTable {
     chars: Chars,
@@ -31,7 +31,7 @@ impl Model for ClientTable {
 }
 
 impl ClientTable {
-    /// The standard characters.
+    /// Makes a table of the standard characters.
     pub fn new() -> Self
         ensures { result ≡ standard_characters }
     {
@@ -46,10 +46,15 @@ impl ClientTable {
         self.chars
     }
 
-    /// Takes a list of triples from the server, and appends the answers to it. Memory is wanted where
-    /// the vector has no room for the answers, and so never for none; after a refusal nothing has
-    /// changed. A function that is given no character here is answered as unsupported, but at the
-    /// level NOSUPPORT, which asks for no answer.
+    /// Takes a list of triples from the server, and appends the answers to it (RFC 1184, section
+    /// 2.4). The client acknowledges each triple that changed its table. A function that has no
+    /// character in this table is answered as unsupported, unless its level is NOSUPPORT, which
+    /// asks for no answer.
+    ///
+    /// # Errors
+    ///
+    /// - `AllocError`: the vector has no room for the answers, and there is no memory for more;
+    ///   nothing has changed. No answers take no memory.
     #[tactic(auto, unfolding(crate::specs::Exchange::client_after, crate::specs::Exchange::client_answers))]
     pub fn got(&mut self, triples: &[Triple], answers: &mut Vec<Triple>) -> Result<(), AllocError>
         ensures table { OnOk result (self.new ≡ client_after self.old triples.now) }
@@ -63,8 +68,12 @@ impl ClientTable {
         react_whole(self, triples, answers)
     }
 
-    /// The triple that proposes a character to the server, or none by `None`; it is refused where the
-    /// client's own table can't have that character. Nothing changes until the server acknowledges it.
+    /// Returns the triple that proposes a character to the server, or none by `None`. Nothing
+    /// changes until the server acknowledges it.
+    ///
+    /// # Errors
+    ///
+    /// - `CharFault`: the client's own table cannot have that character; the fault says why.
     pub fn propose(&self, func: Func, value: Option<u8>) -> Result<Triple, CharFault>
         ensures fault { result_err result ≡ char_fault self.now func value }
         ensures triple { IfOk result (λ triple. triple ≡ triple_of func value) }
@@ -93,7 +102,7 @@ impl ClientTable {
         }
     }
 
-    // Disables the character that is this byte, where there is one.
+    // Disables the character that is this byte, if there is one.
     fn free(&mut self, value: Option<u8>)
         ensures { self.new ≡ without_character self.old value }
     {

@@ -1,4 +1,4 @@
-//! Laws of the exchange of local characters, over the definitions alone.
+//! Laws of the exchange of local characters, only over the definitions.
 
 ghost use Rattle.std.specs.Prelude.{◌≡◌, ◌≤◌, ◌<◌, ℕ, IsTrue, IsFalse, Some, List, [], length, bit_and};
 ghost use Rattle.std.specs.List.{list_all};
@@ -23,9 +23,9 @@ pub fn answers_bounded()
     ensures announcement { (c : Characters) → length (announcement c) ≡ 8 }
 {}
 
-/// An exchange ends. To what a client answers nobody answers, the server or a peer that sends it back, and it
-/// changes nothing at the server. A peer that sends back the server's answers, of which the whole table is
-/// none, is silent after as many rounds as its list has triples, and one more.
+/// An exchange ends. Neither the server nor a peer that sends a client's answers back answers them,
+/// and they change nothing at the server. A peer that sends back the server's answers, without the
+/// whole table, is silent after as many rounds as its list has triples, and one more.
 pub fn exchanges_end()
     ensures answers { (c s : Characters) (ts : List Triple) → server_answers s (client_answers c ts) ≡ [] }
     ensures table { (c s : Characters) (ts : List Triple) → server_after s (client_answers c ts) ≡ s }
@@ -55,7 +55,7 @@ pub fn announced_tables_agree()
         AreAllowed s → server_answers s (client_answers c (announcement s)) ≡ [] }
 {}
 
-/// Tables stay such as a terminal can have, whatever the other end says.
+/// Tables stay such as a terminal can have, whatever the other end sends.
 pub fn tables_stay_allowed()
     ensures server { (c : Characters) (ts : List Triple) → AreAllowed c → AreAllowed (server_after c ts) }
     ensures client { (c : Characters) (ts : List Triple) → AreAllowed c → AreAllowed (client_after c ts) }
@@ -64,7 +64,7 @@ pub fn tables_stay_allowed()
     let _ = Chars::standard();
 }
 
-/// What is answered to a triple speaks of the same function.
+/// The answer to a triple names the same function as the triple.
 pub fn answers_name_their_function()
     ensures server { (c : Characters) (t a : Triple) →
         AreAllowed c → server_answer c t ≡ Some a → Answers t a }

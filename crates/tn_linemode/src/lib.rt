@@ -1,5 +1,8 @@
-//! LINEMODE at its two ends (RFC 1184): which special characters both have, and who edits lines; and how
-//! option words and payloads are said, and what a subnegotiation says where its option is on.
+//! LINEMODE at its two ends (RFC 1184): which special characters both have, and who edits lines;
+//! how option messages and payloads are sent, and how a subnegotiation is read if its option is on.
+//!
+//! Begin with `ServerMode` and `ServerTable` at a server, or `ClientMode` and `ClientTable` at a
+//! client.
 //!
 //! ```
 //! let mut mode = ServerMode::new();
@@ -7,8 +10,8 @@
 //! mode.got(7); // None: the client has acknowledged it, and it is in force
 //! ```
 //!
-//! It edits nothing, and keeps no forward mask; what is said when is each end's. SOFT_TAB and LIT_ECHO
-//! are ignored.
+//! It edits nothing, and keeps no forward mask; each end decides what it sends when. SOFT_TAB and
+//! LIT_ECHO are ignored.
 #![tactic(auto)]
 
 pub use client_mode::ClientMode;

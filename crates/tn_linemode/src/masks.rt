@@ -26,14 +26,14 @@ impl Model for Mode {
 }
 
 impl Mode {
-    /// No editing, and no signals as commands.
+    /// Makes the mode of no editing, and no signals as commands.
     pub fn none() -> Mode
         ensures { result ≡ 0 }
     {
         Mode { mask: 0 }
     }
 
-    /// The mode of a mask, whose other bits are never kept.
+    /// Makes the mode of a mask, of which only EDIT (1) and TRAPSIG (2) are kept.
     pub fn of(mask: u8) -> Mode
         ensures { result ≡ mode_of mask }
     {
@@ -42,21 +42,21 @@ impl Mode {
         }
     }
 
-    /// The client edits lines.
+    /// Returns whether the client edits lines.
     pub fn edit(self) -> bool
         ensures { result ≡ edits self }
     {
         self.mask & EDIT != 0
     }
 
-    /// The client sends its signal characters as commands.
+    /// Returns whether the client sends its signal characters as commands.
     pub fn trapsig(self) -> bool
         ensures { result ≡ traps self }
     {
         self.mask & TRAPSIG != 0
     }
 
-    /// The mask that has the mode's bits alone.
+    /// Returns the mask that has only the mode's bits, 0 to 3.
     pub fn mask(self) -> u8
         ensures value { result ≡ self }
         ensures mode { IsMode result }

@@ -7,13 +7,13 @@ ghost use Rattle.tn_codes.specs.declared.codes.Verb.TheVariants.{DoIt};
 
 use tn_codes::{FORWARDMASK, Mask, SLC, Triple, Verb};
 
-/// DO, FORWARDMASK and the octets of a mask.
+/// The length of DO, FORWARDMASK and the octets of a mask.
 const MASK_PARAMETERS: usize = 34;
 
-/// SLC and the most triples that a subnegotiation holds.
+/// The length of SLC and the most triples that a subnegotiation holds.
 const LIST_PARAMETERS: usize = 511;
 
-/// The parameters of a forward mask, the zeros at its end included.
+/// Returns the parameters of a forward mask, the zeros at its end included.
 pub(crate) fn mask_parameters(mask: &Mask) -> [u8; MASK_PARAMETERS]
     ensures { result ≡ verb_code DoIt ∷ forwardmask ∷ mask.now.0 }
 {
@@ -24,7 +24,7 @@ pub(crate) fn mask_parameters(mask: &Mask) -> [u8; MASK_PARAMETERS]
     parameters
 }
 
-/// The parameters of a list, and what the array has besides.
+/// Returns the parameters of a list at the front of an array, whose rest does not matter.
 pub(crate) fn list_parameters(triples: &[Triple]) -> [u8; LIST_PARAMETERS]
     requires { length triples.now ≤ max_triples }
     ensures { take (3 * length triples.now + 1) result ≡ slc ∷ flat_map octets_of triples.now }

@@ -1,4 +1,4 @@
-//! What came in a subnegotiation.
+//! Reads the subnegotiations that came.
 
 ghost use Rattle.std.specs.Prelude.{◌≡◌, IfOk, IfSome, OnErr};
 ghost use Rattle.tn_codes.specs.Payloads.{IsShort};
@@ -8,7 +8,12 @@ use std::alloc::{AllocError, Global};
 use tn_codes::{Payload, PayloadFault, read_payload};
 use tn_nvt::{MAX_PARAMETERS, Params};
 
-/// What a subnegotiation says, where its option is on.
+/// Returns the payload that a subnegotiation encodes, if its option is on; `None` if the option is
+/// off, or the parameters encode no payload.
+///
+/// # Errors
+///
+/// - `AllocError`: there is no memory for a list of local characters; other payloads take none.
 pub fn read_under(
     alloc: Global,
     is_on: bool,

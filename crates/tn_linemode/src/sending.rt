@@ -1,4 +1,4 @@
-//! What an end sends: option words and payloads, each whole or not at all.
+//! Appends what an end sends: option messages and payloads, each whole or not at all.
 
 ghost use Rattle.std.specs.Prelude.{◌≡◌, ◌≢◌, ◌≤◌, [], ◌∷◌, ◌++◌, length, vec_capacity, OnOk, OnErr};
 ghost use Rattle.tn_codes.specs.Payloads.{option_of, IsShort, max_triples};
@@ -12,7 +12,11 @@ use tn_codes::{Few, Mask, Payload, Triple, Verb, few_parameters, trimmed_len, tr
 use tn_nvt::{put_neg, put_sub};
 use tn_option::{LINEMODE, NAWS};
 
-/// Appends an option word, where there is one to say.
+/// Appends an option message, if there is one (RFC 855).
+///
+/// # Errors
+///
+/// - `AllocError`: there is no memory for its three bytes; nothing was appended.
 pub fn put_word(said: Option<(Verb, u8)>, out: &mut Vec<u8>) -> Result<(), AllocError>
     ensures ok { OnOk result (out.new.items ≡ out.old.items ++ spells (word_items said)) }
     ensures err { OnErr result (out.new.items ≡ out.old.items) }
@@ -27,6 +31,10 @@ pub fn put_word(said: Option<(Verb, u8)>, out: &mut Vec<u8>) -> Result<(), Alloc
 }
 
 /// Appends a payload as a subnegotiation of its option.
+///
+/// # Errors
+///
+/// - `AllocError`: there is no memory for the spelling; nothing was appended.
 pub fn put_payload(payload: &Payload, out: &mut Vec<u8>) -> Result<(), AllocError>
     requires { IsShort payload.now }
     ensures ok { OnOk result (out.new.items ≡ out.old.items ++ spells (payload_items payload.now)) }
@@ -72,7 +80,7 @@ fn put_triples(triples: &[Triple], out: &mut Vec<u8>) -> Result<(), AllocError>
     put_sub(LINEMODE, &parameters[..3 * triples.len() + 1], out)
 }
 
-// The option whose subnegotiation carries it.
+// Returns the option whose subnegotiation carries the payload.
 fn option_of(payload: &Payload) -> u8
     ensures { result ≡ option_of payload.now }
 {
@@ -85,7 +93,11 @@ fn option_of(payload: &Payload) -> u8
     }
 }
 
-/// Appends a MODE with this mask, where one is to be sent.
+/// Appends a MODE with this mask, if there is one (RFC 1184, section 2.2).
+///
+/// # Errors
+///
+/// - `AllocError`: there is no memory for the spelling; nothing was appended.
 pub fn put_mode(mask: Option<u8>, out: &mut Vec<u8>) -> Result<(), AllocError>
     ensures ok { OnOk result (out.new.items ≡ out.old.items ++ spells (mode_items mask)) }
     ensures err { OnErr result (out.new.items ≡ out.old.items) }
@@ -99,7 +111,12 @@ pub fn put_mode(mask: Option<u8>, out: &mut Vec<u8>) -> Result<(), AllocError>
     }
 }
 
-/// Appends a list of local characters, unless it is empty.
+/// Appends a list of local characters, at most 170 triples, unless it is empty (RFC 1184, section
+/// 2.4).
+///
+/// # Errors
+///
+/// - `AllocError`: there is no memory for the spelling; nothing was appended.
 pub fn put_list(triples: &[Triple], out: &mut Vec<u8>) -> Result<(), AllocError>
     requires { length triples.now ≤ max_triples }
     ensures ok { OnOk result (out.new.items ≡ out.old.items ++ spells (list_items triples.now)) }
@@ -114,7 +131,11 @@ pub fn put_list(triples: &[Triple], out: &mut Vec<u8>) -> Result<(), AllocError>
     put_triples(triples, out)
 }
 
-/// Appends a list of one triple.
+/// Appends a list of one triple (RFC 1184, section 2.4).
+///
+/// # Errors
+///
+/// - `AllocError`: there is no memory for the spelling; nothing was appended.
 pub fn put_triple(triple: Triple, out: &mut Vec<u8>) -> Result<(), AllocError>
     ensures ok { OnOk result (out.new.items ≡ out.old.items ++ spells (list_items (triple ∷ []))) }
     ensures err { OnErr result (out.new.items ≡ out.old.items) }

@@ -26,7 +26,7 @@ impl Model for ServerMode {
 }
 
 impl ServerMode {
-    /// Nothing asked, and no editing at the client.
+    /// Makes the mode with which a server begins: nothing asked, and no editing at the client.
     pub fn new() -> Self
         ensures { result ≡ no_mode }
     {
@@ -36,8 +36,9 @@ impl ServerMode {
         }
     }
 
-    /// Asks for a mask, where it was not asked last; returns the mask to send. It has no effect on
-    /// `current` until the client acknowledges it.
+    /// Asks for a mask, and returns it to be sent, unless it is the one that was asked for last.
+    /// The mask has no effect on `current` until the client acknowledges it (RFC 1184, section
+    /// 2.2).
     pub fn wish(&mut self, mask: u8) -> Option<u8>
         ensures mode { self.new ≡ modes_after_wish self.old mask }
         ensures sent { result ≡ mask_sent self.old mask }
@@ -50,8 +51,8 @@ impl ServerMode {
         Some(mode.mask())
     }
 
-    /// Takes a mask from the client: one with MODE_ACK is from now on in force, and one without is
-    /// the client's wish for editing (`true`) or for none.
+    /// Takes a mask from the client. A mask with MODE_ACK acknowledges, and is in force from then
+    /// on; for one without, the client's request is returned: editing (`true`) or none (`false`).
     pub fn got(&mut self, mask: u8) -> Option<bool>
         ensures mode { self.new ≡ modes_after_mode self.old mask }
         ensures wish { result ≡ wish_of_mask mask }
@@ -63,21 +64,21 @@ impl ServerMode {
         Some(edits(mask))
     }
 
-    /// The mode that was asked for last.
+    /// Returns the mode that was asked for last.
     pub fn asked(&self) -> Mode
         ensures { result ≡ self.now.asked }
     {
         self.asked
     }
 
-    /// The mode that the client acknowledged last.
+    /// Returns the mode that the client acknowledged last.
     pub fn current(&self) -> Mode
         ensures { result ≡ self.now.current }
     {
         self.current
     }
 
-    /// LINEMODE went off.
+    /// Resets both modes, since LINEMODE went off.
     pub fn reset(&mut self)
         ensures { self.new ≡ no_mode }
     {

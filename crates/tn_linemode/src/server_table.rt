@@ -45,7 +45,13 @@ impl ServerTable {
         self.chars
     }
 
-    /// Changes the character of a function, or disables it by `None`; the client is not told by this.
+    /// Changes the character of a function, or disables it by `None`. This call sends nothing to
+    /// the client.
+    ///
+    /// # Errors
+    ///
+    /// - `CharFault`: the table cannot have that character; the fault says why, and nothing has
+    ///   changed.
     pub fn set(&mut self, func: Func, value: Option<u8>) -> Result<(), CharFault>
         ensures accepted { OnOk result (char_fault self.old func value ≡ None) }
         ensures ok { OnOk result (self.new ≡ with_slot self.old func value) }
@@ -55,9 +61,13 @@ impl ServerTable {
         self.chars.set(func, value)
     }
 
-    /// Appends the whole table (RFC 1184, section 2.4: a triple for each special character), which asks
-    /// the client to take it. Memory is wanted where the vector has no room for it, and after a refusal
-    /// nothing was appended.
+    /// Appends the whole table, which asks the client to take it (RFC 1184, section 2.4): eight
+    /// triples, one for each special character.
+    ///
+    /// # Errors
+    ///
+    /// - `AllocError`: the vector has no room for the table, and there is no memory for more;
+    ///   nothing was appended.
     pub fn announce(&self, triples: &mut Vec<Triple>) -> Result<(), AllocError>
         ensures ok { OnOk result (triples.new.items ≡ triples.old.items ++ announcement self.now) }
         ensures err { OnErr result (triples.new.items ≡ triples.old.items) }
@@ -68,11 +78,16 @@ impl ServerTable {
         triples.extend_from_slice(&table)
     }
 
-    /// Takes a list of triples from the client, and appends the answers to it. Returns whether the
-    /// whole table is to be sent after them. Memory is wanted where the vector has no room for the
-    /// answers, and so never for none; after a refusal nothing has changed. A function that is
-    /// given no character here is answered as unsupported, but at the level NOSUPPORT, which asks for
-    /// no answer.
+    /// Takes a list of triples from the client, and appends the answers to it (RFC 1184, section
+    /// 2.4). Returns whether the whole table is to be sent after them. The server acknowledges each
+    /// character that it takes, and answers with its own for each that it does not. A function that
+    /// has no character in this table is answered as unsupported, unless its level is NOSUPPORT,
+    /// which asks for no answer.
+    ///
+    /// # Errors
+    ///
+    /// - `AllocError`: the vector has no room for the answers, and there is no memory for more;
+    ///   nothing has changed. No answers take no memory.
     #[tactic(auto, unfolding(crate::specs::Exchange::server_after, crate::specs::Exchange::server_answers))]
     pub fn got(&mut self, triples: &[Triple], answers: &mut Vec<Triple>) -> Result<bool, AllocError>
         ensures table { OnOk result (self.new ≡ server_after self.old triples.now) }
@@ -88,7 +103,7 @@ impl ServerTable {
         Ok(is_asked(triples))
     }
 
-    // Takes a character where it may have it.
+    // Takes a character if the table may have it.
     fn offered(&mut self, func: Func, value: Option<u8>) -> Option<Triple>
         ensures table { self.new ≡ server_takes self.old (Saying.Character func value) }
         ensures answer { result ≡ server_replies self.old (Saying.Character func value) }

@@ -1,4 +1,4 @@
-//! What one triple of a list of local characters says (RFC 1184, section 2.4).
+//! The meaning of one triple of a list of local characters (RFC 1184, section 2.4).
 
 ghost use Rattle.std.specs.Prelude.{◌≡◌, ◌+◌, ◌<◌, ◌≤◌, ◌++◌, length, is_ok, option_to_list, vec_len};
 ghost use Rattle.std.specs.Prelude.{vec_capacity, OnOk, OnErr, if◌then◌else◌};
@@ -10,16 +10,16 @@ use std::alloc::AllocError;
 use tn_codes::{ACK, Func, LEVEL_BITS, Level, Triple};
 use tn_discipline::{Chars, SPECIAL, special_characters};
 
-/// What a triple says, be it an acknowledgement or not.
+/// The meaning of a triple, whether it is an acknowledgement or not.
 #[derive(Clone, Copy, PartialEq, Eq)]
 pub enum Saying {
-    /// All functions are to have their standard characters, and the table is asked for.
+    /// All functions are to have their standard characters, and the table is requested.
     Standard,
-    /// The table is asked for.
+    /// The table is requested.
     Table,
     /// A function is to have this character, or none.
     Character(Func, Option<u8>),
-    /// A function is named that has no character here.
+    /// The triple names a function that has no character in this table.
     Unsupported(u8),
     Nothing,
 }
@@ -63,7 +63,7 @@ fn wanted(func: Func, level: Level, value: u8) -> Option<u8>
     }
 }
 
-/// What a triple says. The flush flags and the bits that no rule names say nothing.
+/// Returns the meaning of a triple. The flush flags and the bits that no rule names do not matter.
 pub fn reading_of(triple: Triple) -> Saying
     ensures { result ≡ saying_of triple }
 {
@@ -82,7 +82,7 @@ pub fn reading_of(triple: Triple) -> Saying
     }
 }
 
-/// The triple that gives a function this character, or none.
+/// Returns the triple that gives a function this character, or none.
 pub fn triple_of(func: Func, value: Option<u8>) -> Triple
     ensures { result ≡ triple_of func value }
 {
@@ -96,7 +96,7 @@ pub fn triple_of(func: Func, value: Option<u8>) -> Triple
     }
 }
 
-/// The same triple as an acknowledgement.
+/// Returns the triple that acknowledges this character of a function, or none.
 pub fn acknowledging(func: Func, value: Option<u8>) -> Triple
     ensures { result ≡ acknowledged_triple (triple_of func value) }
 {
@@ -107,7 +107,7 @@ pub fn acknowledging(func: Func, value: Option<u8>) -> Triple
     }
 }
 
-/// The triple that says that a function has no character.
+/// Returns the triple that answers that a function has no character.
 pub fn unsupported(code: u8) -> Triple
     ensures { result ≡ unsupported_triple code }
 {
@@ -118,7 +118,7 @@ pub fn unsupported(code: u8) -> Triple
     }
 }
 
-/// The whole table: a triple for each function that has a character, in rising number.
+/// Returns the whole table: a triple for each function that has a character, in rising number.
 #[tactic(auto, unfolding(crate::specs::Exchange::announcement))]
 pub fn table_of(chars: &Chars) -> [Triple; 8]
     ensures { result ≡ announcement chars.now }
@@ -126,7 +126,12 @@ pub fn table_of(chars: &Chars) -> [Triple; 8]
     special_characters!(whole_table, chars)
 }
 
-/// Appends an answer, where there is one.
+/// Appends an answer, if there is one.
+///
+/// # Errors
+///
+/// - `AllocError`: the vector has no room for the answer, and there is no memory for more; its
+///   items have not changed.
 pub fn push_answer(answers: &mut Vec<Triple>, answer: Option<Triple>) -> Result<(), AllocError>
     ensures items { answers.new.items ≡
         (if is_ok result then answers.old.items ++ option_to_list answer else answers.old.items) }

@@ -1,4 +1,4 @@
--- How a talk ends.
+-- The ends of a talk.
 use Rattle.std.proofs.Common.{◌≡◌, ◌⊎◌, ℕ, Bool, true, false, List, Option, Some, None, not, sym, ap, ◌∙◌, subst, arith, inl, inr, ⊎_elim}
 use Rattle.std.specs.{Io.KnownBytes.IsAtEnd}
 use Rattle.tn_lines.specs.{Ending.{ClosesAt, Ends, ReadsFail, WritesFail, broken_unless, has_broken}, declared.talk.Over.{Over, TheVariants.{Closed, Broken}}}

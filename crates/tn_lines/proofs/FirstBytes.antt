@@ -75,7 +75,7 @@ pub hears_second : (first : ℕ) (bytes : List ℕ) → 1 ≤ length bytes → H
 hears_second first [] some = absurd (omega arith)
 hears_second first (x ∷ bytes) some = record { leads = second_leads first x bytes; told = second_told first x bytes }
 
--- both came before
+-- both bytes came before
 both_leads : (bytes before : List ℕ) → Both ≡ opening_of before → Both ≡ opening_of (before ++ bytes)
 both_leads bytes [] had = let bad : 2 ≡ 0 = counted Both Nothing had in absurd (omega (arith, bad))
 both_leads bytes (x ∷ []) had = let bad : 2 ≡ 1 = counted Both (First x) had in absurd (omega (arith, bad))
@@ -100,7 +100,7 @@ rises_one None now had = tt
 rises_one (Some x) None had = absurd had
 rises_one (Some x) (Some y) had = omega (arith, had)
 
--- what shows it once goes on to show it
+-- bytes that show it once go on to show it
 still : (before bytes : List ℕ) → negotiates before ≡ true → negotiates (before ++ bytes) ≡ true
 still [] bytes is = let bad : false ≡ true = is in absurd (cc)
 still (x ∷ []) bytes is = let bad : false ≡ true = is in absurd (cc)

@@ -1,4 +1,4 @@
--- What is shown in pieces.
+-- The bytes that are shown in pieces.
 use Rattle.std.proofs.Common.{◌≡◌, ◌<◌, ℕ, ◌+◌, ◌==◌, Bool, false, List, [], ◌∷◌, ◌++◌, length, take, get_or, refl, sym, ap, ◌∙◌, append-nil, append_assoc}
 use Rattle.std.proofs.lemmas.List.{take_more}
 use Rattle.tn_lines.specs.{Said.ends_in_return, Edges.{byte_shown, shown_from, at_screen, ShowsOn}, declared.left_edge.LeftEdge.LeftEdge}

@@ -1,8 +1,9 @@
--- The bytes that a screen shows of what a service says: as they are, and at a terminal with a carriage return before each
--- line feed that has none.
+-- The bytes that a screen shows of a service's bytes: as they are, and at a terminal with a carriage return
+-- before each line feed that has none.
 use Rattle.std.specs.Prelude.{◌≡◌, ℕ, ◌==◌, Bool, false, not, ◌&&◌, List, [], ◌∷◌, ◌++◌, if◌then◌else◌}
 use Rattle.tn_lines.specs.{Said.ends_in_return, declared.left_edge.LeftEdge.LeftEdge}
 
+-- the bytes that the screen shows of a byte
 abbrev pub byte_shown : Bool → Bool → ℕ → List ℕ
 byte_shown at_terminal after_return byte =
     if byte == 10 then (if at_terminal && not after_return then 13 ∷ 10 ∷ [] else byte ∷ []) else byte ∷ []
@@ -13,6 +14,7 @@ shown_from at_terminal after_return [] = []
 shown_from at_terminal after_return (byte ∷ bytes) =
     byte_shown at_terminal after_return byte ++ shown_from at_terminal (byte == 13) bytes
 
+-- the bytes that the screen shows of a service's bytes
 abbrev pub at_screen : Bool → List ℕ → List ℕ
 at_screen at_terminal bytes = shown_from at_terminal false bytes
 
@@ -20,7 +22,7 @@ at_screen at_terminal bytes = shown_from at_terminal false bytes
 abbrev pub HasShown : List ℕ → LeftEdge → Type 0
 HasShown bytes edge = edge.after_return ≡ ends_in_return false bytes
 
--- Whatever was taken before, with these bytes it leads to the new edge; and these bytes more are shown.
+-- After any bytes that were taken before, these bytes lead to the new edge; and these bytes more are shown.
 pub record ShowsOn (old : LeftEdge) (bytes shown : List ℕ) (new : LeftEdge) : Type 0 where
   pub leads : (before : List ℕ) → HasShown before old → HasShown (before ++ bytes) new
   pub shows : (before : List ℕ) → HasShown before old

@@ -1,4 +1,4 @@
--- How a talk ends, and what led to that.
+-- The end of a talk, and what led to it.
 use Rattle.std.specs.Prelude.{◌≡◌, ◌<◌, ◌≤◌, ◌⊎◌, ⊤, ℕ, Bool, true, false, IsTrue, List, Option, Some, None}
 use Rattle.std.specs.Io.KnownBytes.{IsAtEnd}
 use Rattle.tn_lines.specs.declared.talk.Over.{Over, TheVariants.{Closed, Broken, Left, Asked}}
@@ -9,6 +9,7 @@ abbrev pub has_broken : Option Over → Bool
 has_broken (Some Broken) = true
 has_broken _ = false
 
+-- the connection is broken, unless this test holds
 abbrev pub broken_unless : Bool → Option Over
 broken_unless true = None
 broken_unless false = Some Broken

@@ -2,6 +2,7 @@
 use Rattle.std.specs.Prelude.{ℕ, ◌==◌, List, [], ◌∷◌, if◌then◌else◌}
 use Rattle.tn_lines.specs.declared.line_ends.LineEnd.{LineEnd, TheVariants.{CrLf, Lf, Cr}}
 
+-- the bytes of a line end
 abbrev pub end_bytes : LineEnd → List ℕ
 end_bytes CrLf = 13 ∷ 10 ∷ []
 end_bytes Lf = 10 ∷ []

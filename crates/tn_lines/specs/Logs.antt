@@ -1,4 +1,4 @@
--- What is in a log.
+-- The bytes in a log.
 use Rattle.std.specs.Prelude.{ℕ, List, [], ◌∷◌, ◌++◌}
 use Rattle.tn_lines.specs.declared.read_log.ReadLog.{ReadLog, Empty, More'}
 

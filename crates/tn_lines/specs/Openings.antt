@@ -7,6 +7,7 @@ use Rattle.tn_lines.specs.declared.opening.Opening.{Opening, TheVariants.{Nothin
 abbrev pub is_option : ℕ → ℕ → Bool
 is_option first second = first == 255 && (nat_le 251 second && nat_le second 254)
 
+-- the bytes begin with a command of Telnet that negotiates an option
 abbrev pub negotiates : List ℕ → Bool
 negotiates [] = false
 negotiates (first ∷ []) = false
@@ -18,30 +19,30 @@ opening_of [] = Nothing
 opening_of (first ∷ []) = First first
 opening_of (first ∷ second ∷ bytes) = Both
 
--- Whatever came before, with these bytes it leads to the new opening; and they are the ones by which it
+-- After any bytes that came before, these bytes lead to the new opening; and they are the ones by which it
 -- shows.
 pub record Hears (old : Opening) (bytes : List ℕ) (shows : Bool) (new : Opening) : Type 0 where
   pub leads : (before : List ℕ) → old ≡ opening_of before → new ≡ opening_of (before ++ bytes)
   pub told : (before : List ℕ) → old ≡ opening_of before
       → shows ≡ (negotiates (before ++ bytes) && not (negotiates before))
 
--- how often the user is warned of a service that said this
+-- the number of warnings to the user for a service that sent this
 abbrev pub warnings_if : Bool → ℕ
 warnings_if true = 1
 warnings_if false = 0
 
--- what is told of the warnings after one more, or after none
+-- the known number of warnings after one more, or after none
 abbrev pub warned_on : Bool → Option ℕ → Option ℕ
 warned_on true told = option_map (λ n. n + 1) told
 warned_on false told = told
 
--- so many warnings more, where it is told how many there were
+-- this number of warnings more, if it is known how many there were
 abbrev pub Rises : Option ℕ → Option ℕ → ℕ → Type 0
 Rises None new more = ⊤
 Rises (Some old) None more = ⊥
 Rises (Some old) (Some new) more = new ≡ old + more
 
--- These bytes were heard, and the user was warned where they show it.
+-- These bytes came, and the user was warned if they show it.
 pub record Listens (bytes : List ℕ) (old : Opening) (told : Option ℕ) (new : Opening)
     (tells : Option ℕ) : Type 0 where
   pub shows : Bool

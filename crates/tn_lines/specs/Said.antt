@@ -20,6 +20,7 @@ abbrev pub ends_in_return : Bool → List ℕ → Bool
 ends_in_return after_return [] = after_return
 ends_in_return after_return (byte ∷ bytes) = ends_in_return (byte == 13) bytes
 
+-- the bytes that are sent for all bytes of the lines
 abbrev pub said_of : LineEnd → List ℕ → List ℕ
 said_of line_end bytes = said_from line_end false bytes
 
@@ -27,7 +28,8 @@ said_of line_end bytes = said_from line_end false bytes
 abbrev pub LeadsTo : List ℕ → Lines → Type 0
 LeadsTo bytes lines = lines.after_return ≡ ends_in_return false bytes
 
--- Whatever was read before, with these bytes it leads to the new lines; and these bytes more are said.
+-- After any bytes that were read before, these bytes lead to the new lines; and these bytes more are to be
+-- sent.
 pub record Reads (old : Lines) (bytes said : List ℕ) (new : Lines) : Type 0 where
   pub leads : (before : List ℕ) → LeadsTo before old → LeadsTo (before ++ bytes) new
   pub says : (before : List ℕ) → LeadsTo before old

@@ -5,8 +5,8 @@ use Rattle.tn_lines.specs.{Edges.{HasShown, ShowsOn, at_screen}, Logs.bytes_in, 
 use Rattle.tn_lines.specs.Openings.{Listens, Rises, negotiates, opening_of, warnings_if}
 use Rattle.tn_lines.specs.declared.{line_ends.LineEnd.LineEnd, talk.Talk.Talk}
 
--- what is known of the four streams: what the keys and the service still give, what was sent to the service, and what is
--- shown; and how often the user was warned of a service that speaks Telnet
+-- the known facts of the four streams: what the keys and the service still give, what was sent to the
+-- service, and what is shown; and how often the user was warned of a service that speaks Telnet
 pub record Streams : Type 0 where
   pub keys : Option (List ℕ)
   pub service : Option (List ℕ)
@@ -14,13 +14,15 @@ pub record Streams : Type 0 where
   pub screen : Option (List ℕ)
   pub warned : Option ℕ
 
+-- the known facts of a talk's streams
 abbrev pub streams : Option (List ℕ) → Option (List ℕ) → Option (List ℕ) → Option (List ℕ) → Option ℕ
     → Streams
 streams keys service told screen warned =
     record { keys = keys; service = service; told = told; screen = screen; warned = warned }
 
--- These keys and these bytes were read. What the lines of the keys say was sent, but for the bytes that wait, and what came
--- is shown. The user was warned once if what came shows that the service speaks Telnet, and else not.
+-- These keys and these bytes were read. The bytes to be sent for the lines of the keys were sent, but for
+-- those that wait, and the bytes that came are shown. The user was warned once if those show that the service
+-- speaks Telnet, and else not.
 pub record Talked (line_end : LineEnd) (at_terminal : Bool) (typed heard waiting : List ℕ)
     (first last : Streams) : Type 0 where
   pub told : List ℕ
@@ -31,7 +33,7 @@ pub record Talked (line_end : LineEnd) (at_terminal : Bool) (typed heard waiting
   pub lines : told ++ waiting ≡ said_of line_end typed
   pub warns : Rises first.warned last.warned (warnings_if (negotiates heard))
 
--- so it was, and the talk is at the state to which that leads
+-- the talk is at the state to which these keys and bytes lead
 pub record LeadsBy (keys came : List ℕ) (line_end : LineEnd) (at_terminal : Bool) (first last : Streams)
     (talk : Talk) : Type 0
   where
@@ -42,7 +44,7 @@ pub record LeadsBy (keys came : List ℕ) (line_end : LineEnd) (at_terminal : Bo
     pub terminal : talk.edge.at_terminal ≡ at_terminal
     pub opening : talk.opening ≡ opening_of came
 
--- so it is of the keys and the bytes that its logs name
+-- the talk is at the state to which the keys and the bytes that its logs name lead
 abbrev pub Leads : LineEnd → Bool → Streams → Streams → Talk → Type 0
 Leads line_end at_terminal first last talk =
     LeadsBy (bytes_in talk.typed) (bytes_in talk.heard) line_end at_terminal first last talk
@@ -53,7 +55,7 @@ GoesOn old talk new next =
     (line_end : LineEnd) (at_terminal : Bool) (first : Streams)
     → Leads line_end at_terminal first old talk → Leads line_end at_terminal first new next
 
--- these keys were taken while nothing waited: what they say waits
+-- these keys were taken while nothing waited: the bytes to be sent for them wait
 pub record TypesKeys (piece : List ℕ) (old new : Talk) : Type 0 where
   pub takes : Reads old.lines piece new.waiting new.lines
   pub edge : new.edge ≡ old.edge

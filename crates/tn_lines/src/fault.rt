@@ -1,11 +1,11 @@
-//! Why a talk ended early.
+//! The reasons why a talk ended early.
 
 ghost use Rattle.std.specs.Prelude.{◌≡◌};
 
 use std::alloc::AllocError;
 use thiserror::Error;
 
-/// Why a talk ended early.
+/// The reason why a talk ended early.
 #[derive(Clone, Copy, Debug, PartialEq, Eq, Error)]
 pub enum TalkFault {
     #[error("the keys could not be read")]

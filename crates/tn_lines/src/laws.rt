@@ -1,4 +1,4 @@
-//! Laws of the definitions alone.
+//! Laws of lines on their way to a service, only over the definitions.
 
 ghost use Rattle.std.specs.Prelude.{◌≡◌, false, ℕ, List, [], ◌∷◌, ◌++◌};
 ghost use Rattle.tn_lines.specs.{Said.{ends_in_return, said_from}, LineEnds.{end_bytes, line_said}};
@@ -10,7 +10,7 @@ pub fn each_line_has_its_end()
         line_said line_end (bytes ++ 10 ∷ []) ≡ bytes ++ end_bytes line_end }
 {}
 
-/// However lines are cut, a service gets the same bytes of them.
+/// A service gets equal bytes of lines, however the lines are cut.
 pub fn lines_are_read_in_pieces()
     ensures { (line_end : LineEnd) (bytes more : List ℕ) →
         said_from line_end false (bytes ++ more)

@@ -1,12 +1,13 @@
-//! What a service says, as a terminal shows it.
+//! A service's bytes, as a terminal shows them.
 
 ghost use Rattle.std.specs.Prelude.{◌≡◌, ◌==◌, false, [], ◌++◌, OnOk};
 ghost use Rattle.tn_lines.specs.Edges.{HasShown, ShowsOn, byte_shown};
 
 use std::alloc::AllocError;
 
-/// What a service says, on its way to a screen. At a terminal in raw mode a line feed leaves the column as it
-/// is, so that a carriage return is shown before one that has none.
+/// A filter of a service's bytes on their way to a screen. At a terminal in raw mode a line feed
+/// leaves the column as it is, so the filter shows a carriage return before a line feed that has
+/// none.
 #[derive(Clone, Copy, PartialEq, Eq)]
 pub struct LeftEdge {
     at_terminal: bool,
@@ -14,7 +15,8 @@ pub struct LeftEdge {
 }
 
 impl LeftEdge {
-    /// Nothing was shown yet. All is shown as it is where the screen is no terminal.
+    /// Makes a filter that has shown nothing yet. If the screen is no terminal, all is shown as it
+    /// is.
     pub fn new(at_terminal: bool) -> LeftEdge
         ensures empty { HasShown [] result }
         ensures at_terminal { result.at_terminal ≡ at_terminal }
@@ -25,8 +27,12 @@ impl LeftEdge {
         }
     }
 
-    /// Takes the next bytes, and puts what is shown of them into `shown`, in place of what is there. It is
-    /// refused only where memory for that ran out; then some of the bytes were taken.
+    /// Takes the next bytes, and puts the bytes to be shown for them into `shown`, in place of its
+    /// content.
+    ///
+    /// # Errors
+    ///
+    /// - `AllocError`: there is no memory for the bytes to be shown; some of the bytes were taken.
     pub fn take(&mut self, bytes: &[u8], shown: &mut Vec<u8>) -> Result<(), AllocError>
         ensures { OnOk result (ShowsOn self.old bytes.now shown.new.items self.new) }
     {

@@ -1,5 +1,7 @@
 //! A client for services that take lines and negotiate nothing: `tn connect --plain`.
 //!
+//! Begin with `Talk`, and with `Await`, which decides what a talk does next.
+//!
 //! ```
 //! let mut lines = Lines::new(LineEnd::CrLf);
 //! lines.take(b"PING\n", &mut said)?; // said: "PING\r\n"
@@ -7,9 +9,8 @@
 //! let over = talk.run(&rt, &mut ready, &mut keys, &mut service, &mut connection, &mut screen)?;
 //! ```
 //!
-//! One begins with `Talk`, and with `Await`, which tells it what can be done next. A thread waits until keys or bytes of the
-//! service can be read, or the connection takes more. Nothing is proved of the order in which that is: what is sent and
-//! shown is proved for every order.
+//! A thread waits until keys or bytes of the service can be read, or the connection takes more. The
+//! order in which that happens is not proved: what is sent and shown is proved for every order.
 #![tactic(auto)]
 
 pub use fault::TalkFault;

@@ -1,9 +1,9 @@
-//! How a line ends on its way to a service.
+//! The end of a line on its way to a service.
 
 ghost use Rattle.std.specs.Prelude.{◌≡◌};
 ghost use Rattle.tn_lines.specs.LineEnds.{end_bytes};
 
-/// What stands at the end of each line that a service gets.
+/// The bytes at the end of each line that a service gets.
 #[derive(Clone, Copy, Debug, PartialEq, Eq)]
 pub enum LineEnd {
     /// A carriage return and a line feed.
@@ -15,7 +15,7 @@ pub enum LineEnd {
 }
 
 impl LineEnd {
-    /// The bytes of it.
+    /// Returns the bytes of the line end.
     pub fn bytes(self) -> &'static [u8]
         ensures { result.now ≡ end_bytes self }
     {

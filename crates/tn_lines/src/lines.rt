@@ -6,8 +6,8 @@ ghost use Rattle.tn_lines.specs.Said.{LeadsTo, Reads, byte_said};
 use crate::line_ends::LineEnd;
 use std::alloc::AllocError;
 
-/// Lines on their way to a service, of a file or of a terminal at which they were edited. Nothing is edited here, and
-/// a line may have any length.
+/// Lines on their way to a service, of a file or of a terminal at which they were edited. This type
+/// edits nothing, and a line may have any length.
 #[derive(Clone, Copy, PartialEq, Eq)]
 pub struct Lines {
     line_end: LineEnd,
@@ -15,7 +15,7 @@ pub struct Lines {
 }
 
 impl Lines {
-    /// Nothing was read yet.
+    /// Makes lines of which nothing was read yet.
     pub fn new(line_end: LineEnd) -> Lines
         ensures empty { LeadsTo [] result }
         ensures line_end { result.line_end ≡ line_end }
@@ -26,11 +26,12 @@ impl Lines {
         }
     }
 
-    /// Takes the next bytes, and puts what is said of them into `said`, in place of what is there.
+    /// Takes the next bytes, and puts the bytes to be sent for them into `said`, in place of its
+    /// content.
     ///
     /// # Errors
     ///
-    /// - Out of memory: some of the bytes were taken.
+    /// - `AllocError`: there is no memory for the bytes to be sent; some of the bytes were taken.
     pub fn take(&mut self, bytes: &[u8], said: &mut Vec<u8>) -> Result<(), AllocError>
         ensures { OnOk result (Reads self.old bytes.now said.new.items self.new) }
     {

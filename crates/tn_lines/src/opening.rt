@@ -1,4 +1,4 @@
-//! What the first bytes of a service say of it.
+//! The first bytes of a service, which show whether it speaks Telnet.
 
 ghost use Rattle.std.specs.Prelude.{◌≡◌};
 ghost use Rattle.tn_lines.specs.Openings.{Hears, is_option};
@@ -11,7 +11,7 @@ const WILL: u8 = 251;
 
 const DONT: u8 = 254;
 
-/// What came of the two bytes by which a service is known.
+/// The part that has come of the two bytes by which a service is known.
 #[derive(Clone, Copy, PartialEq, Eq)]
 pub(crate) enum Opening {
     Nothing,
@@ -20,8 +20,8 @@ pub(crate) enum Opening {
 }
 
 impl Opening {
-    /// Hears the next bytes. Returns whether it is with them that the first two of all are a command of
-    /// Telnet that negotiates an option.
+    /// Takes the next bytes. Returns whether with them the first two of all are a command of Telnet
+    /// that negotiates an option.
     pub(crate) fn hear(&mut self, bytes: &[u8]) -> bool
         ensures { Hears self.old bytes.now result self.new }
     {
@@ -48,7 +48,7 @@ fn heard(opening: Opening, bytes: &[u8]) -> (Opening, bool)
     }
 }
 
-// Whether these two bytes are a command that negotiates an option.
+// Returns whether these two bytes are a command that negotiates an option.
 fn is_option(first: u8, second: u8) -> bool
     ensures { result ≡ is_option first second }
 {

@@ -15,14 +15,14 @@ pub enum ReadLog {
 }
 
 impl ReadLog {
-    /// Nothing yet.
+    /// Makes a log of no byte.
     pub(crate) fn new() -> ReadLog
         ensures { bytes_in result ≡ [] }
     {
         ReadLog::Empty
     }
 
-    // The same, and this byte after it.
+    // Adds this byte to the log.
     fn then(self, byte: u8) -> ReadLog
         ensures { bytes_in result ≡ bytes_in self ++ (byte ∷ []) }
     {
@@ -30,7 +30,7 @@ impl ReadLog {
         ReadLog::More(before, byte)
     }
 
-    // The same, and these bytes after it.
+    // Adds these bytes to the log, one after another.
     fn then_all(self, bytes: &[u8]) -> ReadLog
         ensures { bytes_in result ≡ bytes_in self ++ bytes.now }
     {
@@ -41,7 +41,7 @@ impl ReadLog {
         log
     }
 
-    /// Adds these bytes.
+    /// Adds these bytes to the log.
     pub(crate) fn add(&mut self, bytes: &[u8])
         ensures { bytes_in self.new ≡ bytes_in self.old ++ bytes.now }
     {

@@ -1,9 +1,9 @@
-//! What can be done without waiting.
+//! The next action of a talk, which needs no waiting.
 
 ghost use Rattle.std.specs.Prelude.{◌≡◌, ℕ, None, Option, true};
 ghost use Rattle.tn_lines.specs.Openings.{warned_on};
 
-/// What a talk can do next.
+/// The next action that a talk can take.
 #[derive(Clone, Copy, PartialEq, Eq)]
 pub enum Ready {
     /// Keys can be read.
@@ -12,35 +12,37 @@ pub enum Ready {
     Bytes,
     /// The service takes more.
     Room,
-    /// The service is to be told that no more comes.
+    /// The end of the stream is due to the service.
     End,
-    /// The talk is to end: its user left by an interrupt or a quit, or asked for the end by a word.
+    /// The talk is to end: its user left by an interrupt or a quit, or typed the command for the
+    /// end.
     Interrupt,
     Leave,
 }
 
-/// What a talk wants to do besides reading what the service says.
+/// The actions that a talk wants to take, besides reading the service's bytes.
 #[derive(Clone, Copy, PartialEq, Eq)]
 pub struct Wants {
-    /// To read keys.
+    /// Whether it wants to read keys.
     pub keys: bool,
-    /// To tell the service more.
+    /// Whether it wants to send the service more.
     pub room: bool,
-    /// To tell it that no more comes.
+    /// Whether it wants to send the end of the stream.
     pub end: bool,
 }
 
-/// Stands by a talk.
+/// A watcher of a talk, which waits and decides what the talk does next.
 pub trait Await {
-    // How often it heard that the service speaks Telnet, where that is told.
+    // The number of reports it got that the service speaks Telnet, if that is counted.
     ghost warned: { Self → Option ℕ } = { λ _. None };
 
-    /// Says what the talk can do next. Where that is not so, the talk waits or does nothing, and goes on.
+    /// Returns what the talk can do next. If that cannot be done, the talk waits or does nothing,
+    /// and goes on.
     fn next(&mut self, wants: Wants) -> Ready
         ensures { warned self.new ≡ warned self.old };
 
-    /// Hears, as soon as it shows and once, that the service speaks Telnet: what it says first is a command
-    /// that negotiates an option.
+    /// Takes the report that the service speaks Telnet, as soon as that shows, and once: its first
+    /// bytes are a command that negotiates an option.
     fn hear_telnet(&mut self)
         ensures { warned self.new ≡ warned_on true (warned self.old) };
 }

@@ -20,10 +20,10 @@ use std::io::ErrorKind;
 use std::sync::Wait;
 use tn_cores::streams::{Drain, Finish, Source, is_interrupted, write_all};
 
-/// How many bytes one read asks for.
+/// The number of bytes for which one read asks.
 const PIECE_BYTES: usize = 4_096;
 
-/// How a talk ended.
+/// The end of a talk.
 #[derive(Clone, Copy, PartialEq, Eq)]
 pub enum Over {
     /// The service has closed.
@@ -32,11 +32,11 @@ pub enum Over {
     Broken,
     /// The user left by an interrupt or a quit.
     Left,
-    /// The user asked for the end by a word.
+    /// The user typed the command for the end.
     Asked,
 }
 
-/// A talk with a service: lines go to it, and what it says is shown.
+/// A talk with a service: lines go to it, and its bytes are shown.
 #[derive(Drop)]
 pub struct Talk {
     lines: Lines,
@@ -52,8 +52,8 @@ pub struct Talk {
 }
 
 impl Talk {
-    /// Nothing was read yet. Each line goes with this end. If the screen is a terminal in raw mode, a line feed goes
-    /// back to its left edge.
+    /// Makes a talk of which nothing was read yet. Each line goes with this end. If the screen is a
+    /// terminal in raw mode, a line feed goes back to its left edge.
     pub fn new(alloc: Global, line_end: LineEnd, at_terminal: bool) -> Talk
         ensures begins { Begins line_end at_terminal result }
     {
@@ -71,14 +71,14 @@ impl Talk {
         }
     }
 
-    /// How many bytes wait to be told.
+    /// Returns the number of bytes that wait to be sent.
     pub fn unsent(&self) -> usize
         ensures { result ≡ length self.now.waiting }
     {
         self.waiting.as_slice().len()
     }
 
-    /// The logs of the keys that were read, and of what the service said.
+    /// Returns the logs of the keys that were read, and of the service's bytes.
     pub fn into_logs(self) -> (ReadLog, ReadLog)
         ensures typed { bytes_in result.0 ≡ bytes_in self.typed }
         ensures heard { bytes_in result.1 ≡ bytes_in self.heard }
@@ -87,7 +87,7 @@ impl Talk {
         (typed, heard)
     }
 
-    // Reads keys, and lets what they say wait. None are read while bytes wait.
+    // Reads keys, and lets the bytes to be sent for them wait. It reads none while bytes wait.
     fn take_keys<K: Source>(&mut self, keys: &mut K) -> Result<(), TalkFault>
         ensures { OnOk result ((service told screen : Option (List ℕ)) (warned : Option ℕ) →
             GoesOn (streams (K.remaining keys.old) service told screen warned) self.old
@@ -108,7 +108,7 @@ impl Talk {
         }
     }
 
-    // Takes these keys, and lets what they say wait.
+    // Takes these keys, and lets the bytes to be sent for them wait.
     fn type_keys(&mut self, piece: &[u8]) -> Result<(), TalkFault>
         ensures { OnOk result (TypesKeys piece.now self.old self.new) }
     {
@@ -118,7 +118,7 @@ impl Talk {
         Ok(())
     }
 
-    // Reads what the service says, and shows it. Returns how the talk ended, if it did.
+    // Reads the service's bytes, and shows them. It returns how the talk ended, if it did.
     fn take_bytes<A: Await, N: Source, S: Drain>(
         &mut self,
         ready: &mut A,
@@ -146,7 +146,7 @@ impl Talk {
         }
     }
 
-    // Shows what came, and hears it.
+    // Shows the bytes that came, and looks for Telnet in them.
     fn show<A: Await, S: Drain>(
         &mut self,
         piece: &[u8],
@@ -165,7 +165,8 @@ impl Talk {
         Ok(())
     }
 
-    // Tells the service what waits, as far as it takes it at once. Returns whether the connection stands.
+    // Sends the service the bytes that wait, as far as it takes them at once. It returns whether
+    // the connection stands.
     fn tell<W: Drain>(&mut self, writer: &mut W) -> bool
         ensures goes_on { (keys service screen : Option (List ℕ)) (warned : Option ℕ) →
             GoesOn (streams keys service (W.contents writer.old) screen warned) self.old
@@ -185,7 +186,7 @@ impl Talk {
         }
     }
 
-    // Whether the service is to be told that no more comes.
+    // Returns whether the end of the stream is due to the service.
     fn is_to_finish(&self) -> bool {
         if self.finished || self.unsent() > 0 {
             return false;
@@ -253,8 +254,13 @@ impl Talk {
         }
     }
 
-    /// Talks until the service has closed, the connection is broken, or the user has left. The logs name the keys that
-    /// were read, and what the service said.
+    /// Talks until the service has closed, the connection is broken, or the user has left, and
+    /// returns which of them ended the talk. The logs hold the keys that were read, and the
+    /// service's bytes.
+    ///
+    /// # Errors
+    ///
+    /// `TalkFault` says why the talk ended early.
     pub fn run<H: Wait, A: Await, K: Source, N: Source, W: Finish, S: Drain>(
         &mut self,
         rt: &H,
@@ -291,7 +297,7 @@ impl Talk {
     }
 }
 
-// Hears what came, and warns where with it the service shows that it speaks Telnet.
+// Takes the bytes that came, and reports if with them the service shows that it speaks Telnet.
 fn listen<A: Await>(opening: &mut Opening, piece: &[u8], ready: &mut A)
     ensures { Listens piece.now opening.old (A.warned ready.old) opening.new (A.warned ready.new) }
 {
@@ -306,7 +312,7 @@ fn broken_unless(stands: bool) -> Option<Over>
     if stands { None } else { Some(Over::Broken) }
 }
 
-// The call is to be made again later.
+// Returns whether the call is to be made again later.
 fn is_for_later(error: &io::Error) -> bool
     ensures again { IsTrue result → (error_kind error.now ≡ ErrorKind.Interrupted)
         ⊎ (error_kind error.now ≡ ErrorKind.WouldBlock) }

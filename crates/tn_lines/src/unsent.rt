@@ -1,4 +1,4 @@
-//! Bytes that wait to be told.
+//! Bytes that wait to be sent.
 
 ghost use Rattle.std.specs.Prelude.{◌≡◌, ◌≤◌, [], drop, length};
 
@@ -6,7 +6,7 @@ use std::alloc::Global;
 use std::marker::Model;
 use std::mem;
 
-/// Bytes that wait to be told to a service, of which it may take some at a time.
+/// Bytes that wait to be sent to a service, which may take some at a time.
 #[derive(Drop)]
 pub(crate) struct Waiting {
     bytes: Vec<u8>,
@@ -24,7 +24,7 @@ impl Model for Waiting {
 }
 
 impl Waiting {
-    /// None.
+    /// Makes an empty queue.
     pub(crate) fn new(alloc: Global) -> Waiting
         ensures { result ≡ [] }
     {
@@ -40,7 +40,7 @@ impl Waiting {
         &self.bytes[self.sent..]
     }
 
-    /// The first of them wait no more.
+    /// Removes the first bytes, which were sent.
     pub(crate) fn take(&mut self, count: usize)
         requires { count ≤ length self.old }
         ensures { self.new ≡ drop count self.old }
@@ -48,7 +48,7 @@ impl Waiting {
         self.sent += count;
     }
 
-    /// These wait, and no others.
+    /// Puts these bytes into the queue, in place of others.
     pub(crate) fn refill(&mut self, bytes: &mut Vec<u8>)
         ensures { self.new ≡ bytes.old.items }
     {

@@ -1,4 +1,4 @@
--- What a console gives and keeps.
+-- The inputs that a console gives and keeps.
 use Rattle.std.proofs.Common.{◌≡◌, ℕ, List, [], ◌++◌, Option, refl, sym, ap, ◌∙◌, subst, inl, arith, append-nil}
 use Rattle.std.specs.Io.KnownBytes.{Keeps}
 use Rattle.tn_net.specs.{declared.escaping.{Escaping.Escaping, SessionInput.SessionInput}, Passing.{GivesInputs, handed_on}}
@@ -19,14 +19,12 @@ kept_only old new escaping asked telling kept left given same gives = record {
   prompt = refl;
 }
 
--- what was kept is the same list
+-- the inputs that were kept are one list
 pub kept_as : (old new : Option (List ℕ)) (was now : Escaping) (asked telling : Option Control) (kept same left : List SessionInput) (given : List ℕ)
     → same ≡ kept → GivesInputs old new was now asked same given telling left → GivesInputs old new was now asked kept given telling left
 kept_as old new was now asked telling kept same left given is gives = subst (λ (l : List SessionInput). GivesInputs old new was now asked l given telling left) is gives
 
-}
-
--- the same, where the reader and the escape character stay as they are
+-- a console gives and keeps inputs, if the reader and the escape character stay as they are
 pub given_only : (old new : Option (List ℕ)) (was now : Escaping) (asked telling : Option Control) (kept left : List SessionInput) (given : List ℕ) → new ≡ old
     → now ≡ was → handed_on given telling ++ left ≡ handed_on [] asked ++ kept → GivesInputs old new was now asked kept given telling left
 given_only old new was now asked telling kept left given same stays gives =

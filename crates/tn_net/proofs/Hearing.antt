@@ -1,4 +1,4 @@
--- What a piece tells of typing is what its items tell, however they are handed on.
+-- The typed part of a piece is that of its items, however they are passed on.
 use Rattle.std.proofs.Common.{◌≡◌, ℕ, Bool, true, false, ◌||◌, List, ◌++◌, Result, Ok, Err, IsErrOf, ◌↔◌, inl, inr, refl, sym, ap, ◌∙◌}
 use Rattle.std.proofs.lemmas.List.Folds.{list_any-append}
 use Rattle.tn_nvt.proofs.lemmas.Folding.{taken_all}

@@ -1,4 +1,4 @@
--- What the peer of a server's connection is told at its end is one of four.
+-- The last words to the peer of a server's connection are one of four.
 use Rattle.std.proofs.Common.{◌≡◌, ℕ, List, Option, Some, None, inl, inr, refl, subst, sym}
 use Rattle.tn_net.specs.{LastWords.{last_lines, line_of}, declared.attended.Why.{Why, TheVariants.{Closing, Idle, TooLong}}}
 use Rattle.tn_cores.specs.streams.Beside.{IsOneOf}

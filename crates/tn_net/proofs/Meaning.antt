@@ -61,7 +61,8 @@ module _ (own : OwnCharacters) (allowed : AreAllowed (characters_of own)) (key :
   unreserved : (f : Func) → slot chars f ≡ Some key → is_reserved key ≡ false
   unreserved f has = allowed.unreserved f key has
 
-  -- What the session's key is at a standard terminal, the typed one is at the user's own; and neither is a return unless the other is.
+  -- The meaning of the session's key at a standard terminal is that of the typed one at the user's own; and
+  -- neither is a return unless the other is.
   abbrev Means : Type 0
   Means = (role_of_mapped (with_chars standard_characters) (mapped own key) ≡ role_of_mapped (with_chars chars) key)
       × ((mapped own key == 13) ≡ (key == 13))
@@ -159,7 +160,7 @@ module _ (own : OwnCharacters) (allowed : AreAllowed (characters_of own)) (key :
       λ i. if key == 10 then Nl else by (y.5 i) (y.3 i) (y.4 i) (y.0 i) (y.1 i) (y.2 i) key in
       (ap (role_of_mapped (with_chars standard_characters)) m ∙ t ∙ sym r, ap (λ n. n == 13) m)
 
-  -- each key
+  -- each key has its meaning
   means : IsOfUser own key → Means
   means user = by_intr (is_set_to own.intr key) refl where
     by_eof : (b : Bool) → is_set_to own.eof key ≡ b → is_set_to own.intr key ≡ false → is_set_to own.quit key ≡ false → is_set_to own.susp key ≡ false
@@ -190,7 +191,7 @@ module _ (own : OwnCharacters) (allowed : AreAllowed (characters_of own)) (key :
     by_intr true e = as_intr (set_to own.intr key e)
     by_intr false e = by_quit (is_set_to own.quit key) refl e
 
--- what a return or another key becomes
+-- the key that a return or another key becomes
 becomes : (key : ℕ) (b : Bool) → (key == 13) ≡ b → mapped_key standard_flags key ≡ Some (if b then 10 else key)
 becomes key true e = λ i. if e i then Some 10 else (if key == 10 && false then Some 13 else Some key)
 becomes key false e = (λ i. if e i then Some 10 else (if key == 10 && false then Some 13 else Some key)) ∙ never (key == 10) (Some 13) (Some key) where

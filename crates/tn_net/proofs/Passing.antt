@@ -1,4 +1,4 @@
--- What a reader hands on.
+-- The bytes that a reader passes on.
 use Rattle.std.proofs.Common.{ℕ, List, [], Option, Some, None, Result, Ok, Err, refl, sym, ◌∙◌}
 use Rattle.std.specs.Io.KnownBytes.{Consumes, Keeps, ReadConsumes}
 use Rattle.tn_net.specs.Passing.{HandsOn}

@@ -1,4 +1,4 @@
--- Which keys bytes are that are taken one by one, up to where the user asks to leave.
+-- The keys that bytes are which are taken one by one, up to the request to leave.
 use Rattle.std.proofs.Common.{◌≡◌, ◌<◌, ◌+◌, ℕ, Bool, true, false, if◌then◌else◌, List, [], ◌∷◌, ◌++◌, length, take, drop, refl, sym, ap, ◌∙◌, append_assoc}
 use Rattle.std.proofs.{Common.{append-nil, arith, Option, Some, None, option_map}, Math.ListN.{get_or, set}}
 use Rattle.std.proofs.lemmas.List.{drop_more, get_or-set_same, length-set, take-set-le, take_more}

@@ -42,14 +42,14 @@ has_end-end (None ∷ ps) = refl
 true_false : true ≡ false → ⊥
 true_false e = cc
 
--- behind what comes where no end was put stands nothing
+-- nothing follows what comes if no end was put
 behind-more : (ps : Pieces) (x : Piece) → has_end ps ≡ false → behind_end (ps ++ x ∷ []) ≡ []
 behind-more [] (Some x) e = refl
 behind-more [] None e = refl
 behind-more (Some p ∷ ps) x e = behind-more ps x e
 behind-more (None ∷ ps) x e = absurd (true_false e)
 
--- what is put where no end was
+-- the pieces that are put if no end was
 pub put_there : (o : Option Pieces) (b : Bool) → option_map has_end o ≡ Some b → (l : Pieces) × (o ≡ Some l) × (has_end l ≡ b)
 put_there None b e = absurd (none_some e)
   where
@@ -89,7 +89,7 @@ put_appends v w x l bytes mine e is =
     ∙ ap Some (bytes_of-push l x ∙ ap (λ (b : List ℕ). bytes_of l ++ b) is) in
     rw old (rw new refl)
 
--- or the end, which has none
+-- the end was put, which has no bytes
 pub end_keeps : (v w : PieceHand) (l : Pieces) → v.put ≡ Some l → w ≡ put_more v None → put_bytes w ≡ put_bytes v
 end_keeps v w l mine e =
     ap (λ (u : PieceHand). put_bytes u) e ∙ ap (λ (o : Option Pieces). option_map bytes_of (more o None)) mine ∙ ap Some (bytes_of-end l)

@@ -15,7 +15,7 @@ use Rattle.tn_net.specs.declared.escaping.SessionInput.TheVariants as input
 use Rattle.tn_net.specs.declared.escaping.Typed.TheVariants as typed
 use Rattle.tn_cores.specs.declared.streams.control.Control.TheVariants.{Brk, Ip, Ayt, NewLine}
 
--- where no character is the user's own, each byte stays
+-- if no character is the user's own, each byte stays
 pub none_mapped : (byte : ℕ) → mapped none_own byte ≡ byte
 none_mapped byte = same_either (is_reserved byte) byte where
   same_either : (b : Bool) (n : ℕ) → (if b then n else n) ≡ n
@@ -49,7 +49,7 @@ pub every : (bytes : List ℕ) → inputs of_bytes closed bytes ≡ map input.Ke
 every [] = refl
 every (byte ∷ bytes) = λ i. input.Key (none_mapped byte i) ∷ every bytes i
 
--- the user's own characters change keys alone
+-- the user's own characters change only keys
 module _ (keyboard : Keyboard) where
   given_as : (x : SessionInput) → input_in (typed_as x) ≡ x ∷ []
   given_as (input.Key key) = refl
@@ -99,7 +99,7 @@ module _ (keyboard : Keyboard) where
       (kept_return byte is r ∙ ap (λ (n : ℕ). mapped_input keyboard (returned r n)) (sym (none_mapped byte)))
       ∙ ap (map (mapped_input keyboard)) (sym (given_as (returned r (mapped none_own byte))))
 
-  -- what a line means is no key
+  -- the meaning of a line is no key
   no_key : (b c d e : Bool) (command : EscapeCommand) → input_in (if b then typed.Nothing else if c then typed.Control Brk else if d then typed.Control Ip
       else if e then typed.Control Ayt else typed.Command command)
       ≡ map (mapped_input keyboard) (input_in (if b then typed.Nothing else if c then typed.Control Brk else if d then typed.Control Ip
@@ -138,7 +138,7 @@ module _ (keyboard : Keyboard) where
   is_mapped true prompt byte =
       from_line (is_escape keyboard.escape byte) (edit_of keyboard.editing prompt.sequence byte) prompt.line byte refl
 
-  -- the line behind a byte is the same
+  -- the line after a byte is the same
   same_prompt : (opens : Bool) (prompt : Prompt) (byte : ℕ) → prompt_when opens keyboard prompt byte ≡ prompt_when opens (unmapped keyboard) prompt byte
   same_prompt false prompt byte = refl
   same_prompt true prompt byte = refl
@@ -172,7 +172,7 @@ same_commands keyboard prompt (byte ∷ bytes) =
     ∙ ap (λ (p : Prompt). command_in (typed_after (unmapped keyboard) prompt byte) ++ commands (unmapped keyboard) p bytes)
     (same_prompt keyboard prompt.is_open prompt byte)
 
--- what RETURN is to send changes no other key
+-- the bytes that RETURN is to send change no other key
 as_key : (r : ReturnKey) (key : ℕ) → (key == 13) ≡ false → returned r key ≡ input.Key key
 as_key CrNul key apart = refl
 as_key CrLf key apart = λ i. if apart i then input.Control NewLine else input.Key key
@@ -187,7 +187,7 @@ unchanged keyboard prompt byte r false apart =
     let two = as_key (returns_of keyboard (record prompt { returns = r })) (mapped keyboard.own byte) stays in
     ap (λ (x : SessionInput). if is_escape keyboard.escape byte then typed.Nothing else typed_as x) (one ∙ sym two)
 
--- of a line no byte is a key, but the escape character on an empty one
+-- no byte of a line is a key, except the escape character on an empty line
 module _ (line : List ℕ) (byte key : ℕ) where
   abbrev IsEscape : Bool → Type 0
   IsEscape b = (key ≡ byte) × IsTrue b × (line ≡ [])
@@ -310,7 +310,7 @@ module _ (keyboard : Keyboard) (prompt : Prompt) (given : List ℕ) where
             ∙ sym (ap (λ (l : List ℕ). prompt_behind keyboard prompt l) longer);
       }
 
-  -- and the commands are those with it
+  -- the commands after one byte more are those with the byte's own
   pub commands_with : (place d : ℕ) (escaping : Escaping) (typed : Typed) → place < length given → escaping.keyboard ≡ keyboard
       → escaping.prompt ≡ prompt_behind keyboard prompt (take place given)
       → typed ≡ typed_after escaping.keyboard escaping.prompt (get_or given place d)
@@ -322,7 +322,7 @@ module _ (keyboard : Keyboard) (prompt : Prompt) (given : List ℕ) where
       ap (λ (l : List ℕ). commands keyboard prompt l) (take_more given place d few) ∙ commands_push keyboard prompt done byte
       ∙ ap (λ (t : Typed). commands keyboard prompt done ++ command_in t) (sym read)
 
-  -- at first nothing was
+  -- no byte was taken yet
   pub none_yet : (first : List SessionInput) (before : Option (List EscapeCommand)) (escaping : Escaping) → escaping.keyboard ≡ keyboard → escaping.prompt
       ≡ prompt
       → IsSorted first 0 first before before escaping
@@ -333,7 +333,7 @@ module _ (keyboard : Keyboard) (prompt : Prompt) (given : List ℕ) where
     prompt_is = prompt_stays;
   }
 
--- what was pushed is last
+-- the input that was pushed is last
 pub pushed : {A : Type 0} (b : Bool) (old new : List A) (x : A) → b ≡ true → new ≡ (if b then old ++ x ∷ [] else old) → new ≡ old ++ x ∷ []
 pushed true old new x e is = is
 pushed false old new x e is = cc

@@ -16,7 +16,7 @@ stops_now a b c n k bytes rest e one two = stops_at a c n bytes (stays_at a b c 
 
 -- WHETHER MORE MAY COME
 
--- of a writer that a piece was taken for, and then sent
+-- a piece was taken for a writer, and then sent
 pub open_sent : (a b c d : Option Sending) → StaysOpen a b → c ≡ b → StaysOpen c d → StaysOpen a d
 open_sent a b c d more same sent e = sent (same ∙ more e)
 

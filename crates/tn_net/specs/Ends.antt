@@ -4,6 +4,7 @@ use Rattle.crossbeam_channel.specs.{Claims.{view, IsSeatAt}, Ends.{sends_on, rec
 use Rattle.tn_cores.specs.queue.Queue.{LeftOver, joined_hands, putter, taker}
 use Rattle.tn_net.specs.{Queue.{PieceHand, Pieces, count_behind}, declared.outgoing.NewQueue.NewQueue}
 
+-- Both ends are of one channel, and nothing was put or taken.
 pub record IsNew (queue : NewQueue) : Type 0 where
   pub one : receives_on queue.from ≡ sends_on queue.to
   pub put : IsSeatAt (sends_on queue.to) queue.pass

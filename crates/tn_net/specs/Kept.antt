@@ -1,4 +1,4 @@
--- What is first of the keys and control functions that are kept for a session.
+-- The first of the keys and control functions that are kept for a session.
 use Rattle.std.specs.Prelude.{ℕ, List, ◌∷◌, Option, None, Some}
 use Rattle.tn_net.specs.declared.escaping.SessionInput.{SessionInput}
 use Rattle.tn_net.specs.declared.escaping.SessionInput.TheVariants as input

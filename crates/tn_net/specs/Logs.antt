@@ -1,4 +1,4 @@
--- What is in a log, and what is known of a writer that keeps one.
+-- The bytes in a log, and the known facts of a writer that keeps one.
 use Rattle.std.specs.Prelude.{ℕ, Some, None, List, [], ◌∷◌, ◌++◌}
 use Rattle.tn_net.specs.declared.write_log.WriteLog.{WriteLog, Empty, More'}
 use Rattle.tn_cores.specs.streams.Known.{KnownWriting}

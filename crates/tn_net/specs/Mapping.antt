@@ -33,13 +33,13 @@ own_function own byte =
     (if is_set_to own.kill byte then Some func.El else
     (if is_set_to own.eof byte then Some func.Eof else None)))))
 
--- the standard character of a function; the byte itself where there is none
+-- the standard character of a function; the byte itself if there is none
 abbrev pub standard_for : Option Func → ℕ → ℕ
 standard_for None byte = byte
 standard_for (Some f) byte = unwrap_or (slot standard_characters f) byte
 
--- what a session gets of a byte: a line feed, a carriage return and 255 stay what they are, whatever they are
--- to the user's terminal
+-- the byte that a session gets for a typed one: a line feed, a carriage return and 255 stay what they are,
+-- whatever they are to the user's terminal
 abbrev pub mapped : OwnCharacters → ℕ → ℕ
 mapped own byte = if is_reserved byte then byte else standard_for (own_function own byte) byte
 

@@ -1,4 +1,4 @@
--- What passes through: a write that fails on the way, and what a reader hands on.
+-- The bytes that pass through: a write that fails on the way, and the bytes that a reader passes on.
 use Rattle.std.specs.Prelude.{◌≡◌, ◌≢◌, ℕ, List, [], ◌++◌, map, take, Option, option_to_list, Result, Ok, Err}
 use Rattle.std.specs.{Prelude.{IfOk, MatchResult}, Io.KnownBytes.{Appends, Consumes, Keeps}}
 use Rattle.tn_net.specs.{Typing.{IsTakenUpTo, inputs, prompt_behind}, declared.escaping.Escaping.Escaping}
@@ -15,22 +15,22 @@ Begins old new bytes = (written : List ℕ) × IsPrefixOf written bytes × Appen
 abbrev pub HandsOn : {E : Type 0} → Option (List ℕ) → Option (List ℕ) → Result ℕ E → List ℕ → Type 0
 HandsOn old new r buf = MatchResult r (λ n. Consumes old new (take n buf)) (λ _. Keeps old new)
 
--- the same where the read gave anything
+-- the bytes that are passed on if the read gave anything
 abbrev pub GivesNext : {E : Type 0} → Option (List ℕ) → Option (List ℕ) → Result ℕ E → List ℕ → Type 0
 GivesNext old new r buf = IfOk r (λ n. n ≢ 0 → Consumes old new (take n buf))
 
--- what a read gave
+-- the bytes that a read gave
 abbrev pub given_of : {E : Type 0} → Result ℕ E → List ℕ → List ℕ
 given_of (Ok n) buf = take n buf
 given_of (Err e) buf = []
 
--- the keys that were given, and the control function that is to be told next, if there is one
+-- the keys that were given, and the control function that is to be reported next, if there is one
 abbrev pub handed_on : List ℕ → Option Control → List SessionInput
 handed_on keys asked = map input.Key keys ++ map input.Control (option_to_list asked)
 
--- From one state of a console to a later one. What it gave, is to tell and keeps is what it was to tell and
--- kept, and then what a session gets of the next bytes that were typed: each once, in their order. Of these
--- all were taken, or those up to one that asks to close.
+-- From one state of a console to a later one. The inputs that it gave, is to report and keeps are those that
+-- it was to report and kept, and then those of the next bytes that were typed: each once, in their order. All
+-- of these bytes were taken, or those up to one that asks to close.
 pub record GivesInputs (old new : Option (List ℕ)) (was now : Escaping) (to_tell : Option Control)
     (kept : List SessionInput)
     (given : List ℕ) (telling : Option Control) (left : List SessionInput) : Type 0 where

@@ -1,4 +1,4 @@
--- Which keys a user types to a service without Telnet, up to where he asks to leave.
+-- The keys that a user types to a service without Telnet, up to the request to leave.
 use Rattle.std.specs.Prelude.{ℕ, Bool, true, false, List, [], ◌∷◌, ◌++◌, if◌then◌else◌}
 use Rattle.tn_net.specs.{Typing.{prompt_after, typed_after}, declared.escaping.Escaping.Escaping}
 use Rattle.tn_net.specs.declared.escaping.{EscapeCommand.{EscapeCommand, TheVariants.Close}, Typed.Typed}
@@ -10,16 +10,17 @@ abbrev pub key_in : Typed → List ℕ
 key_in (typed.Key key) = key ∷ []
 key_in _ = []
 
+-- the command closes the connection
 abbrev pub is_close : EscapeCommand → Bool
 is_close (Close next) = true
 is_close _ = false
 
--- it asks to leave
+-- the input asks to leave
 abbrev pub asks_to_leave : Typed → Bool
 asks_to_leave (typed.Command command) = is_close command
 asks_to_leave _ = false
 
--- the keys that bytes are, after so much of a line
+-- the keys that bytes are, after this part of a line
 unfoldable pub keys_typed : Keyboard → Prompt → List ℕ → List ℕ
 keys_typed keyboard prompt [] = []
 keys_typed keyboard prompt (byte ∷ bytes) =

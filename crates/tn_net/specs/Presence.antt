@@ -1,4 +1,4 @@
--- What of a client's stream is typed: data, and the commands that stand for keys at the terminal (RFC 854,
+-- The typed part of a client's stream: data, and the commands that stand for keys at the terminal (RFC 854,
 -- RFC 1184, section 2).
 use Rattle.std.specs.{Prelude.{◌≡◌, ℕ, Bool, true, false, ◌||◌, List, ◌∷◌, ◌++◌, ◌⊎◌}, List.list_any}
 use Rattle.tn_codes.specs.declared.codes.Command.{Command}
@@ -7,6 +7,7 @@ use Rattle.tn_nvt.specs.declared.items.Item.{Item, TheVariants.{Byte, Newline, C
 use Rattle.tn_nvt.specs.Feeding.{DecoderState, failed, Advances, KeepsParameter}
 use Rattle.tn_net.specs.declared.presence.Seen.{Seen}
 
+-- the command stands for a key at the terminal
 abbrev pub stands_for_key : Command → Bool
 stands_for_key command.Eof = true
 stands_for_key command.Susp = true
@@ -22,6 +23,7 @@ stands_for_key command.Ao = false
 stands_for_key command.Ayt = false
 stands_for_key command.Ga = false
 
+-- the item is data, or a command that stands for a key
 abbrev pub is_typed : Item → Bool
 is_typed (Byte byte) = true
 is_typed Newline = true
@@ -33,7 +35,7 @@ is_typed (Sub option params) = false
 abbrev pub are_typed : List Item → Bool
 are_typed items = list_any is_typed items
 
--- of these items too it was seen whether one is typed
+-- it was also seen of these items whether one is typed
 abbrev pub Sees : Seen → List Item → Seen → Type 0
 Sees old items new = new.typed ≡ (old.typed || are_typed items)
 
@@ -64,6 +66,6 @@ pub record HearsNoMore (old : DecoderState) (piece : List ℕ) (typed : Bool) (n
   pub fails : new ≡ failed
   pub cause : (old ≡ failed) ⊎ NeedsMemory old piece
 
--- what is told of a piece
+-- the report about a piece
 abbrev pub TellsOfPiece : DecoderState → List ℕ → Bool → DecoderState → Type 0
 TellsOfPiece old piece typed new = Hears old piece typed new ⊎ HearsNoMore old piece typed new

@@ -11,6 +11,7 @@ use Rattle.tn_net.specs.declared.prompt.Sequence.TheVariants as sequence
 abbrev pub closed : Prompt
 closed = record { is_open = false; line = []; sequence = sequence.Nothing; returns = None }
 
+-- the state after a line was begun
 abbrev pub opened : Prompt → Prompt
 opened prompt = record prompt { is_open = true; line = []; sequence = sequence.Nothing }
 
@@ -18,23 +19,24 @@ opened prompt = record prompt { is_open = true; line = []; sequence = sequence.N
 abbrev pub with_added : List ℕ → ℕ → List ℕ
 with_added line byte = if nat_le (length line + 1) 255 then line ++ byte ∷ [] else line
 
+-- the line without its last byte
 abbrev pub without_last : List ℕ → List ℕ
 without_last line = take (length line - 1) line
 
--- what a standard character does: both BS and DEL erase
+-- the effect of a standard character: both BS and DEL erase
 abbrev pub edit_by : ℕ → Edit
 edit_by character =
     if character == 8 || character == 127 then Erase else if character == 21 then Kill
     else if character == 3 then Leave else if nat_le 32 character && nat_le character 126 then Add else Refuse
 
--- what a byte does that is part of no sequence: a line feed ends a line as a return does
+-- the effect of a byte that is part of no sequence: a line feed ends a line as a return does
 abbrev pub plain_edit : OwnCharacters → ℕ → Edit
 plain_edit own byte =
     if byte == 10 || byte == 13 then Enter else if byte == 27 then Skip sequence.Escape
     else edit_by (mapped own byte)
 
--- What a byte does. A sequence is ESC, a bracket, signs and digits, and one letter or sign more; or ESC, O and
--- one byte (ECMA-48, 5.4). It is passed over.
+-- The effect of a byte. A sequence is ESC, a bracket, signs and digits, and one letter or sign more; or ESC,
+-- O and one byte (ECMA-48, 5.4). It is passed over.
 abbrev pub edit_of : OwnCharacters → Sequence → ℕ → Edit
 edit_of own sequence.Nothing byte = plain_edit own byte
 edit_of own sequence.Escape byte =
@@ -45,21 +47,22 @@ edit_of own sequence.Control byte =
 edit_of own sequence.Letter byte =
     if nat_le 32 byte && nat_le byte 126 then Skip sequence.Nothing else plain_edit own byte
 
--- what a line asks RETURN to send, if it asks for that
+-- the bytes that a line asks RETURN to send, if it asks for that
 abbrev pub return_in : List ℕ → Option ReturnKey
 return_in line =
     if bytes_eq line (codes "return crnul") then Some CrNul else if bytes_eq line (codes "return crlf") then Some CrLf
     else if bytes_eq line (codes "return lf") then Some Lf else None
 
--- what was asked for last
+-- the last of two requests for what RETURN sends
 abbrev pub later : Option ReturnKey → Option ReturnKey → Option ReturnKey
 later (Some asked) before = Some asked
 later None before = before
 
+-- the bytes that RETURN is to send after a line, which may ask for others
 abbrev pub last_return : List ℕ → Option ReturnKey → Option ReturnKey
 last_return line before = later (return_in line) before
 
--- and what the line is then
+-- the line after an edit
 abbrev pub after_edit : Edit → ℕ → Prompt → Prompt
 after_edit Enter byte prompt =
     record prompt { is_open = false; sequence = sequence.Nothing; returns = last_return prompt.line prompt.returns }

@@ -7,30 +7,35 @@ use Rattle.crossbeam_channel.specs.{Claims.{Pass, no_key}, declared.flavors.arra
 use Rattle.tn_cores.specs.declared.queue.Hand.{Hand}
 use Rattle.tn_nvt.specs.Prefixes.{IsPrefixOf}
 
--- what is put: some bytes, or the end
+-- a piece that is put: some bytes, or the end
 abbrev pub Piece : Type 0
 Piece = Option (Vec ℕ)
 
+-- the pieces that were put or taken, in order
 abbrev pub Pieces : Type 0
 Pieces = List Piece
 
+-- the view of a pass of the queue
 abbrev pub PieceHand : Type 0
 PieceHand = Hand Piece
 
+-- a pass of the queue
 abbrev pub PiecePass : Type 0
 PiecePass = Pass Piece PieceHand
 
--- what names a queue's channel: its table, and its key
+-- the name of a queue's channel: its table, and its key
 abbrev pub PieceTable : Type 0
 PieceTable = TableId
 
+-- the name of a queue
 abbrev pub PieceKey : Type 0
 PieceKey = Badge (Key Piece)
 
+-- the name of no queue
 abbrev pub no_name : PieceKey
 no_name = no_key
 
--- this is the channel that they name
+-- the channel that they name is this one
 abbrev pub IsNamed : {S Q M L A : Type 0} → PieceTable → PieceKey
     → Rows (Badge (Key Piece)) S Q M (Key Piece) L A → Type 0
 IsNamed table key c = (c.stamps.shared.table_id ≡ table) × (c.stamps.shared.key ≡ key)
@@ -51,16 +56,17 @@ behind_end [] = []
 behind_end (Some piece ∷ pieces) = behind_end pieces
 behind_end (None ∷ pieces) = pieces
 
+-- the end is among these pieces
 abbrev pub has_end : Pieces → Bool
 has_end [] = false
 has_end (Some piece ∷ pieces) = has_end pieces
 has_end (None ∷ pieces) = true
 
--- the bytes of all that was put, where the pass is of the one that puts
+-- the bytes of all that was put, if the pass is of the one that puts
 abbrev pub put_bytes : PieceHand → Option (List ℕ)
 put_bytes v = option_map bytes_of v.put
 
--- how many pieces come after the end
+-- the number of pieces after the end
 abbrev pub count_behind : Option Pieces → ℕ
 count_behind None = 0
 count_behind (Some pieces) = length (behind_end pieces)
@@ -76,18 +82,17 @@ WritesTaken v w old new =
     (pieces : Pieces) × (written : List ℕ) × TakesOn v pieces w
     × IsPrefixOf written (bytes_of pieces) × Appends old new written
 
--- the same, and it was given all
+-- `WritesTaken`, and the writer was given all
 abbrev pub WritesAllTaken : PieceHand → PieceHand → Option (List ℕ) → Option (List ℕ) → Type 0
 WritesAllTaken v w old new =
     (pieces : Pieces) × TakesOn v pieces w × Appends old new (bytes_of pieces)
 
--- the same, of all pieces up to the end, which was taken last
+-- `WritesAllTaken`, of all pieces up to the end, which was taken last
 abbrev pub WritesToTheEnd : PieceHand → PieceHand → Option (List ℕ) → Option (List ℕ) → Type 0
 WritesToTheEnd v w old new =
     (pieces : Pieces) × TakesOn v (pieces ++ None ∷ []) w × Appends old new (bytes_of pieces)
 
--- Of a queue that was new: a log has the first of the bytes that were put, and all of them where the end was
--- sent.
+-- A queue that was new: a log has the first of the bytes that were put, and all of them if the end was sent.
 pub record IsSent (put : Option (List ℕ)) (whole : Type 0) (logged : List ℕ) : Type 0 where
   pub first : (bytes : List ℕ) → put ≡ Some bytes → IsPrefixOf logged bytes
   pub all : whole → put ≡ Some logged

@@ -1,4 +1,5 @@
-//! What a client sends, how long a server bears its silence, and for how long it serves it.
+//! The reading side of a server's connection, with limits on the client's silence and on the time
+//! of the session.
 
 ghost use Rattle.std.specs.{Prelude.{◌≡◌, ◌≤◌, ◌≢◌, length, take, IfOk, IfSome, None, Some}, Io.ReadsAtMost};
 ghost use Rattle.std.specs.Io.KnownBytes.{Consumes, Keeps, ReadConsumes};
@@ -19,16 +20,17 @@ use std::time::{Clock, Duration, Instant};
 use std::{io, thread};
 use tn_cores::streams::{Source, WindowSize};
 
-/// How many milliseconds a read waits before it looks whether its session is over.
+/// The number of milliseconds for which a read waits before it looks whether its session is over.
 const LOOK: u16 = 500;
 
-/// How many seconds a peer has to close after it was told that no more comes, and after its session lasted too
-/// long or its server is to end.
+/// The number of seconds that a peer has to close after it got the end of the stream, and after its
+/// session lasted too long or its server is to end.
 const LINGER: u64 = 5;
 
 const LINGER_LATE: u64 = 1;
 
-/// Why a session was late to end: its peer typed nothing for too long, or it lasted too long itself.
+/// The reason why a session was late to end: its peer typed nothing for too long, or it lasted too
+/// long itself.
 const IDLE: usize = 1;
 
 const TOO_LONG: usize = 2;
@@ -36,18 +38,18 @@ const TOO_LONG: usize = 2;
 /// An interrupt or a quit waits for the job in the foreground.
 const INTERRUPTED: usize = usize::MAX;
 
-/// A window's size is its width so many times, and its height.
+/// The factor by which a window's size is one number: its width times this, plus its height.
 const SIDE: usize = 65_536;
 
-/// How often it is looked at most whether a session is held still, and how many milliseconds lie between.
+/// The most looks whether a session is held still, and the number of milliseconds between them.
 const HOLDS: u8 = 200;
 
 const HOLD: u64 = 10;
 
-/// What the two sides of a server's connection and its session know of each other.
+/// The state that the two sides of a server's connection and its session share.
 #[derive(Drop)]
 pub struct Standing {
-    /// The peer was told that no more comes.
+    /// The peer got the end of the stream.
     finished: AtomicBool,
     /// The peer typed nothing for too long (`IDLE`), or the session lasted too long (`TOO_LONG`); else 0.
     late: AtomicUsize,
@@ -57,31 +59,32 @@ pub struct Standing {
     closing: AtomicBool,
     /// A job of the session wants it to end as by a hang-up.
     hung_up: AtomicBool,
-    /// It is rung where a job wants that.
+    /// The bell that is rung if a job wants the session to end.
     bell: Bell,
     /// A job of the session still has to write once nothing more comes from the peer.
     held: AtomicBool,
-    /// Nothing more comes from the peer.
+    /// Whether nothing more comes from the peer.
     gone: AtomicBool,
-    /// For how many seconds nothing may pass, or 0 for ever.
+    /// The number of seconds for which nothing may pass, or 0 for ever.
     patience: AtomicUsize,
-    /// By it is seen whether the peer has ended.
+    /// The connection, by which it is seen whether the peer has ended.
     stream: OnceLock<TcpStream>,
-    /// Why what a job is joined to was not reached, in lines.
+    /// The causes why the connection to which a job is joined was not reached, in lines.
     unreached: OnceLock<Vec<u8>>,
-    /// What a job is joined to.
+    /// The connection to which a job is joined.
     onward: OnceLock<TcpStream>,
-    /// How many pieces of what the peer sends went to the session.
+    /// The number of the peer's pieces that went to the session.
     pieces: AtomicUsize,
     /// One more than after how many pieces all that was typed had gone to the job in the foreground, which
     /// waited for more. While that job does not wait: `INTERRUPTED`, or 0.
     answered: AtomicUsize,
-    /// No more is sent to what a job is joined to.
+    /// Whether no more is sent to the connection to which a job is joined.
     spent: AtomicBool,
 }
 
 impl Standing {
-    /// The peer was told nothing yet, and everything is still to come from it.
+    /// Makes the state of a peer that was sent nothing yet, and from which everything is still to
+    /// come.
     pub fn new(alloc: Global) -> Result<Arc<Standing, Global>, AllocError> {
         let standing = Standing {
             finished: AtomicBool::new(false),
@@ -103,14 +106,14 @@ impl Standing {
         Ok(Arc::new(alloc, standing)?)
     }
 
-    /// Ends the session as by a hang-up: at once where it is held and the system has a bell to give, else
-    /// within half a second.
+    /// Ends the session as by a hang-up: at once if it is held and the system has a bell to give,
+    /// else within half a second.
     pub fn hang_up(&self) {
         self.hung_up.store(true, Ordering::SeqCst);
         self.bell.ring();
     }
 
-    /// Whether the session is to end, or ended, by `hang_up`.
+    /// Returns whether the session is to end, or ended, by `hang_up`.
     pub fn is_hung_up(&self) -> bool {
         self.hung_up.load(Ordering::SeqCst)
     }
@@ -121,7 +124,7 @@ impl Standing {
         self.bell.ring();
     }
 
-    /// Whether the session is to end, or ended, by `close`.
+    /// Returns whether the session is to end, or ended, by `close`.
     pub fn is_closing(&self) -> bool {
         self.closing.load(Ordering::SeqCst)
     }
@@ -138,34 +141,36 @@ impl Standing {
         self.held.store(true, Ordering::SeqCst);
     }
 
-    /// Whether the peer typed nothing for too long.
+    /// Returns whether the peer typed nothing for too long.
     pub fn is_idle(&self) -> bool {
         self.late.load(Ordering::SeqCst) == IDLE
     }
 
-    /// Whether the session lasted too long.
+    /// Returns whether the session lasted too long.
     pub fn is_too_long(&self) -> bool {
         self.late.load(Ordering::SeqCst) == TOO_LONG
     }
 
-    /// Whether the session was ended while its peer may still send: by `hang_up` or `close`, or since it lasted
-    /// too long, or what came was not typed.
+    /// Returns whether the session was ended while its peer may still send: by `hang_up` or
+    /// `close`, or since it lasted too long, or what came was not typed.
     pub fn is_ended_here(&self) -> bool {
         self.is_hung_up() || self.is_closing() || self.is_too_long() || self.is_idle()
     }
 
-    /// Whether nothing more comes from the peer: it has hung up, or was told that no more comes.
+    /// Returns whether nothing more comes from the peer: it has hung up, or got the end of the
+    /// stream.
     pub fn is_over(&self) -> bool {
         self.is_finished() || self.gone.load(Ordering::SeqCst)
     }
 
-    /// For how many seconds nothing may pass on the way to the peer, nor on to what a job is joined to; 0 is
-    /// for ever.
+    /// Returns the number of seconds for which nothing may pass on the way to the peer, nor on to
+    /// the connection to which a job is joined; 0 is for ever.
     pub fn patience(&self) -> usize {
         self.patience.load(Ordering::SeqCst)
     }
 
-    /// Whether the peer has ended what it sends, or is gone, also where what it sent before is not read yet.
+    /// Returns whether the peer has ended its stream, or is gone, even if the bytes that it sent
+    /// before are not read yet.
     pub fn has_peer_ended(&self) -> bool {
         match self.stream.get() {
             Some(stream) => has_peer_ended(stream.as_raw_fd()),
@@ -178,7 +183,7 @@ impl Standing {
         let _ = self.unreached.set(rt, causes);
     }
 
-    /// Why what a job is joined to was not reached, where it was not.
+    /// Returns why the connection to which a job is joined was not reached, if it was not.
     pub fn unreached(&self) -> Option<&[u8]> {
         match self.unreached.get() {
             Some(causes) => Some(causes.as_slice()),
@@ -186,8 +191,8 @@ impl Standing {
         }
     }
 
-    /// A job is joined to this: once the peer has ended what it sends, and all of that has gone to the job in
-    /// the foreground, no more is sent there.
+    /// Notes the connection to which a job is joined: once the peer has ended its stream, and all
+    /// of that has gone to the job in the foreground, no more is sent there.
     pub(crate) fn join<R: Wait>(&self, rt: &R, onward: TcpStream) {
         let _ = self.onward.set(rt, onward);
         if self.spent.load(Ordering::SeqCst) {
@@ -195,13 +200,14 @@ impl Standing {
         }
     }
 
-    /// One more piece of what the peer sends went to the session.
+    /// Counts one more piece of the peer's stream that went to the session.
     pub fn count_piece(&self) {
         self.pieces.fetch_add(1, Ordering::SeqCst);
     }
 
-    /// So many pieces had their effect: whether all that was typed in them has gone to the job in the
-    /// foreground, which waits for more, and whether an interrupt or a quit waits for that job.
+    /// Notes that this number of pieces had their effect: whether all that was typed in them has
+    /// gone to the job in the foreground, which waits for more, and whether an interrupt or a quit
+    /// waits for that job.
     pub fn note_typed(&self, pieces: u64, is_answered: bool, is_interrupted: bool) {
         let answered = if is_answered {
             usize::try_from(pieces.saturating_add(1)).unwrap_or(0)
@@ -213,14 +219,15 @@ impl Standing {
         self.answered.store(answered, Ordering::SeqCst);
     }
 
-    /// The peer's window has this size from now on.
+    /// Notes the size of the peer's window.
     pub fn note_window(&self, size: WindowSize) {
         let width = usize::from(size.width).saturating_mul(SIDE);
         let window = width.saturating_add(usize::from(size.height));
         self.window.store(window, Ordering::SeqCst);
     }
 
-    /// The size of the peer's window in characters; 0 leaves a side open, as both are at first.
+    /// Returns the size of the peer's window in characters; 0 leaves a dimension open, as both are
+    /// at first.
     pub(crate) fn window(&self) -> WindowSize {
         let window = self.window.load(Ordering::SeqCst);
         WindowSize {
@@ -229,13 +236,13 @@ impl Standing {
         }
     }
 
-    /// Whether an interrupt or a quit waits for the job in the foreground.
+    /// Returns whether an interrupt or a quit waits for the job in the foreground.
     pub(crate) fn is_interrupted(&self) -> bool {
         self.answered.load(Ordering::SeqCst) == INTERRUPTED
     }
 
-    // Passes the end of what the peer sends on to what a job is joined to, once all before it went there. Each
-    // piece was counted by now, by the thread that read it.
+    // Passes the end of the peer's stream on to the connection to which a job is joined, once all
+    // before it went there. Each piece was counted before, by the thread that read it.
     fn pass_end(&self) {
         let pieces = self.pieces.load(Ordering::SeqCst);
         if self.answered.load(Ordering::SeqCst) != pieces.saturating_add(1) {
@@ -244,13 +251,14 @@ impl Standing {
         self.end();
     }
 
-    /// No more is sent to what a job is joined to, or is joined to later.
+    /// Ends the stream to the connection to which a job is joined, or is joined later.
     pub(crate) fn end(&self) {
         self.spent.store(true, Ordering::SeqCst);
         self.end_onward(Shutdown::Write);
     }
 
-    // Nothing more comes from the peer, and it takes nothing more: what a job is joined to is left at once.
+    // Notes that nothing more comes from the peer, and that it takes nothing more: the connection
+    // to which a job is joined is left at once.
     fn leave_onward(&self) {
         self.end_onward(Shutdown::Both);
     }
@@ -261,7 +269,7 @@ impl Standing {
         }
     }
 
-    // Nothing more comes from the peer, since reading failed or not.
+    // Notes that nothing more comes from the peer, since reading failed or not.
     fn go(&self, failed: bool) {
         self.gone.store(true, Ordering::SeqCst);
         if failed {
@@ -269,8 +277,9 @@ impl Standing {
         }
     }
 
-    // Whether the connection is broken, as by a reset. One of the Unix domain, which has no address, looks so
-    // once the peer has closed it, and is not: what it sent before goes on.
+    // Returns whether the connection is broken, as by a reset. A connection of the Unix domain,
+    // which has no address, looks so once the peer has closed it, and is not: the bytes sent before
+    // go on.
     fn is_broken(&self) -> bool {
         match self.stream.get() {
             Some(stream) => stream.local_addr().is_ok() && is_broken(stream.as_raw_fd()),
@@ -278,8 +287,8 @@ impl Standing {
         }
     }
 
-    /// The peer is told that no more comes, and so is what a job is joined to: the jobs have left, or have no
-    /// effect any more.
+    /// Sends the end of the stream to the peer, and to the connection to which a job is joined: the
+    /// jobs have left, or have no effect any more.
     pub(crate) fn finish(&self) {
         self.finished.store(true, Ordering::SeqCst);
         self.end();
@@ -289,21 +298,23 @@ impl Standing {
         self.finished.load(Ordering::SeqCst)
     }
 
-    // Whether the session is to end as by a hang-up, and the peer has not been told yet that no more comes.
+    // Returns whether the session is to end as by a hang-up, and the peer has not got the end of
+    // the stream yet.
     fn is_to_end(&self) -> bool {
         self.is_hung_up() && !self.is_finished()
     }
 
-    // Whether the session is to go on although nothing more comes from the peer.
+    // Returns whether the session is to go on although nothing more comes from the peer.
     fn is_held(&self) -> bool {
         self.held.load(Ordering::SeqCst) && !self.is_hung_up() && !self.is_finished()
     }
 }
 
-/// Why no more is read from a peer that may still send, where neither it nor a job wants that.
+/// The reason why no more is read from a peer that may still send, if neither the peer nor a job
+/// wants that.
 #[derive(Clone, Copy)]
 pub(crate) enum Why {
-    /// It typed nothing for too long.
+    /// The peer typed nothing for too long.
     Idle,
     /// Its session has lasted too long.
     TooLong,
@@ -322,21 +333,21 @@ fn words_of(why: Option<Why>) -> &'static [u8]
     }
 }
 
-/// What a client sends. It ends, as by a hang-up, if the client types nothing for too long, if the session has
-/// lasted too long, if its server is to end, if a job of it wants that, and if the client does not close in
-/// time after it was told that no more comes. Its last words are `idle` in the first case, `too long` in the
-/// second and `closing` in the third.
+/// A client's stream, as a server reads it. It ends, as by a hang-up, if the client types nothing
+/// for too long, if the session has lasted too long, if its server is to end, if a job of it wants
+/// that, and if the client does not close in time after it got the end of the stream. Its last
+/// words are `idle` in the first case, `too long` in the second and `closing` in the third.
 #[derive(Drop)]
 pub struct Attended<H, S> {
     rt: H,
     stream: S,
     standing: Arc<Standing, Global>,
-    /// For how many seconds a client may type nothing, or 0 for ever.
+    /// The number of seconds for which a client may type nothing, or 0 for ever.
     idle: u32,
     /// After how many seconds the session ends, or 0 for never.
     longest: u32,
     began: Option<Instant>,
-    /// When something was typed last.
+    /// The moment at which something was typed last.
     heard: Option<Instant>,
     typed: TypedPieces,
     finished: Option<Instant>,
@@ -344,9 +355,14 @@ pub struct Attended<H, S> {
 }
 
 impl<H: Clock + Copy + Wait> Attended<H, TcpStream> {
-    /// The reading side of a connection. It ends where for `idle` seconds nothing came that reaches the
-    /// terminal, or after `longest` seconds; 0 is never. A write to it that the peer does not take for the
-    /// shorter of the two fails: while it waits, nobody hears that the peer is silent.
+    /// Makes the reading side of a connection. It ends if for `idle` seconds nothing came that
+    /// reaches the terminal, or after `longest` seconds; 0 is never. A write to the connection that
+    /// the peer does not take for the shorter of the two fails: while it waits, the peer's silence
+    /// is not noticed.
+    ///
+    /// # Errors
+    ///
+    /// - The system's error for the times of the connection, or for one more handle of it.
     pub fn new(
         rt: H,
         alloc: Global,
@@ -383,7 +399,7 @@ impl<H: Clock + Copy + Wait> Attended<H, TcpStream> {
 }
 
 impl<H: Clock + Copy, S: Drop> Attended<H, S> {
-    // Whether a moment lies so many seconds back. Without a clock none does.
+    // Returns whether a moment lies this number of seconds back. Without a clock none does.
     fn is_past(&self, moment: Option<Instant>, seconds: u64) -> bool {
         match moment.map(|moment| moment.elapsed(&self.rt)) {
             Some(Ok(elapsed)) => elapsed.as_secs() >= seconds,
@@ -391,8 +407,9 @@ impl<H: Clock + Copy, S: Drop> Attended<H, S> {
         }
     }
 
-    // Whether no more is read: the peer typed nothing for too long, or it had its time to close. One that was
-    // idle has no such time, and one that stayed too long, or whose server is to end, a short one.
+    // Returns whether no more is read: the peer typed nothing for too long, or it had its time to
+    // close. A peer that was idle has no such time, and one that stayed too long, or whose server
+    // is to end, a short one.
     fn is_over(&mut self) -> bool
         ensures { self.new.stream ≡ self.old.stream }
     {
@@ -413,7 +430,7 @@ impl<H: Clock + Copy, S: Drop> Attended<H, S> {
         self.is_past(self.finished, seconds)
     }
 
-    // Whether no more is read since nothing was typed for too long.
+    // Returns whether no more is read since nothing was typed for too long.
     fn is_idle(&mut self) -> bool
         ensures { self.new.stream ≡ self.old.stream }
     {
@@ -428,7 +445,8 @@ impl<H: Clock + Copy, S: Drop> Attended<H, S> {
         true
     }
 
-    // Whether no more is read since the server is to end, or the session has lasted too long.
+    // Returns whether no more is read since the server is to end, or the session has lasted too
+    // long.
     fn has_had_its_time(&mut self) -> bool
         ensures { self.new.stream ≡ self.old.stream }
     {
@@ -439,7 +457,7 @@ impl<H: Clock + Copy, S: Drop> Attended<H, S> {
         true
     }
 
-    // Whether no more is read since the session has lasted too long.
+    // Returns whether no more is read since the session has lasted too long.
     fn is_too_long(&mut self) -> bool
         ensures { self.new.stream ≡ self.old.stream }
     {
@@ -456,8 +474,9 @@ impl<H: Clock + Copy, S: Drop> Attended<H, S> {
 }
 
 impl<H: Clock + Copy + Wait, S: AsRawFd + Drop + Read + Closing> Attended<H, S> {
-    // Waits for what the client sends, for a short time, or until a job wants the session to end. Whether it
-    // is to be read; where no job holds the session, and once one wants that, the read waits itself.
+    // Waits for the client's bytes, for a short time, or until a job wants the session to end. It
+    // returns whether they are to be read; if no job holds the session, and once one wants that,
+    // the read waits itself.
     fn comes(&self) -> bool {
         if !self.standing.held.load(Ordering::SeqCst) || self.standing.is_hung_up() {
             return true;
@@ -480,7 +499,8 @@ impl<H: Clock + Copy + Wait, S: AsRawFd + Drop + Read + Closing> Attended<H, S> 
         }
     }
 
-    // One read. `None` where its time has passed: a peer that keepalive gave up is another error.
+    // Makes one read. It returns `None` if its time has passed: a peer that keepalive gave up is
+    // another error.
     fn read_once(&mut self, buf: &mut [u8]) -> io::Result<Option<usize>>
         ensures bound { IfOk result (λ some. IfSome some (λ n. n ≤ length buf.new)) }
         ensures some { IfOk result (λ some. IfSome some (λ n.
@@ -501,7 +521,7 @@ impl<H: Clock + Copy + Wait, S: AsRawFd + Drop + Read + Closing> Attended<H, S> 
         }
     }
 
-    // Notes when something was typed last, where that is asked for.
+    // Notes when something was typed last, if that is asked for.
     fn hear(&mut self, piece: &[u8])
         ensures { self.new.stream ≡ self.old.stream }
     {
@@ -533,7 +553,7 @@ impl<H: Clock + Copy + Wait, S: AsRawFd + Drop + Read + Closing> Attended<H, S> 
                     if self.standing.is_finished() {
                         return self.discard(buf);
                     }
-                    // What came while the session was busy was typed in time.
+                    // The bytes that came while the session was busy were typed in time.
                     if self.is_idle() {
                         return Ok(0);
                     }
@@ -595,7 +615,7 @@ impl<H: Clock + Copy + Wait, S: AsRawFd + Drop + Read + Closing> Source for Atte
     }
 }
 
-// The shorter of two times, of which 0 is for ever.
+// Returns the shorter of two times, of which 0 is for ever.
 fn shorter(one: u32, other: u32) -> u32 {
     if one == 0 {
         return other;
@@ -606,7 +626,7 @@ fn shorter(one: u32, other: u32) -> u32 {
     one.min(other)
 }
 
-// No more is read after this.
+// Returns whether no more is read after this.
 fn is_last(read: &io::Result<usize>) -> bool {
     match read {
         Ok(count) => *count == 0,

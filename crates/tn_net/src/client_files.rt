@@ -5,12 +5,12 @@ use std::io::ErrorKind;
 use std::os::unix::fs::{MetadataExt, OpenOptionsExt, PermissionsExt};
 use std::{fs, io};
 
-/// Only its owner reads and writes such a file.
+/// The mode of a file that only its owner reads and writes.
 pub const PRIVATE: u32 = 0o600;
 
 /// Opens the files that a client appends to.
 pub trait ClientFiles {
-    /// A file that is appended to, which is its owner's. A link is not followed.
+    /// Opens a file for appending, which only its owner may read and write. A link is not followed.
     fn append_to(&self, path: &str) -> io::Result<File>;
 }
 
@@ -34,7 +34,8 @@ impl<H: Files<File = File>> ClientFiles for H {
     }
 }
 
-/// Whether the path leads to what is there and no regular file: a terminal, a pipe, or a descriptor.
+/// Returns whether the path leads to something that is no regular file: a terminal, a pipe, or a
+/// descriptor.
 pub fn is_device<H: Files<File = File>>(rt: &H, path: &str) -> bool {
     if path.starts_with("/dev/") || path.starts_with("/proc/") {
         return true;

@@ -40,9 +40,14 @@ pub struct Connection<S> {
 }
 
 impl Connection<TcpStream> {
-    /// Both sides of a connection, the reading one first. What is written is sent at once: a session
-    /// writes its echo and its job's text separately, and the second would otherwise wait until the first
-    /// is acknowledged. TCP keepalive finds a peer whose machine is gone.
+    /// Splits a connection into its two sides, the reading one first. Bytes that are written are
+    /// sent at once: a session writes its echo and its job's text separately, and the second would
+    /// otherwise wait until the first is acknowledged. TCP keepalive finds a peer whose machine is
+    /// gone.
+    ///
+    /// # Errors
+    ///
+    /// - The system's error for one more handle of the connection.
     pub fn split(stream: TcpStream) -> io::Result<(TcpStream, Connection<TcpStream>)>
         ensures { IfOk result (λ sides. sides.1.stream ≡ stream) }
     {
@@ -56,7 +61,8 @@ impl Connection<TcpStream> {
 }
 
 impl<S: Drop> Connection<S> {
-    /// The same, of which the reading side has to know when it is finished.
+    /// Gives the connection a standing, which its reading side shares, so that it sees when the
+    /// writing side is finished.
     pub fn with_standing(self, standing: Arc<Standing, Global>) -> Connection<S>
         ensures stream { result.stream ≡ self.stream }
         ensures standing { result.standing ≡ Some standing }
@@ -65,7 +71,7 @@ impl<S: Drop> Connection<S> {
         Connection { standing, ..self }
     }
 
-    /// The connection itself, which is not finished.
+    /// Returns the connection itself, which is not finished.
     pub fn into_stream(self) -> S
         ensures { result ≡ self.stream }
     {
@@ -74,7 +80,7 @@ impl<S: Drop> Connection<S> {
     }
 }
 
-// Where the system refuses one of these, the connection goes on without it.
+// Turns keepalive on. If the system refuses one of its options, the connection goes on without it.
 fn keep_alive(stream: &TcpStream) {
     set(stream, c::SOL_SOCKET, c::SO_KEEPALIVE, 1);
     set(stream, c::IPPROTO_TCP, c::TCP_KEEPIDLE, KEEPALIVE_IDLE);

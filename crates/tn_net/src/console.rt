@@ -1,5 +1,5 @@
-//! Standard input as keys: it is waited for, so that a session ends though nobody types, and at a terminal
-//! the user speaks to the client itself after an escape character.
+//! Standard input as keys: it is waited for, so that a session ends though nothing is typed, and at
+//! a terminal the user speaks to the client itself after an escape character.
 
 ghost use Rattle.std.specs.{Prelude.{◌≡◌, ◌≢◌, ◌≤◌, ◌+◌, ◌++◌, ℕ, [], None, length, take}, Io.ReadsAtMost};
 ghost use Rattle.std.specs.{Io.KnownBytes.ReadConsumes, VecDeque.{deque_capacity, deque_len}};
@@ -30,20 +30,20 @@ const STANDARD_INPUT: i32 = 0;
 /// The descriptor that `poll` passes over (POSIX).
 const NO_DESCRIPTOR: i32 = -1;
 
-/// After how many milliseconds without a key it is looked whether a half line is to be given. The end of the session
-/// ends the wait by itself.
+/// After how many milliseconds without a key it is looked whether a half-typed line is to be given.
+/// The end of the session ends the wait by itself.
 const LOOK: i32 = 200;
 
-/// The same where keys are held back.
+/// The number of milliseconds for which a wait lasts if keys are held back.
 const HOLD: u64 = 200;
 
-/// How many milliseconds a terminal has at most to bring the next keys of a paste that is read ahead.
+/// The most milliseconds that a terminal has to bring the next keys of a paste that is read ahead.
 const REFILL: i32 = 2;
 
-/// How many milliseconds a user who leaves waits at most for the keys before to be taken.
+/// The most milliseconds for which a user who leaves waits until the keys before are taken.
 const LEAVING: u64 = 1_000;
 
-// What a wait ends with.
+// The result of a wait.
 #[derive(Clone, Copy)]
 enum Ready {
     Size,
@@ -51,14 +51,14 @@ enum Ready {
     Key,
     /// Keys can be read, and are to be kept.
     Ahead,
-    /// A half line that was typed before is to be given.
+    /// A half-typed line that was typed before is to be given.
     HalfLine,
     Over,
 }
 
-/// Keys from standard input, and what its user asks the client itself for. Of what is typed nothing is known
-/// beforehand. While keys are held back, a user who speaks to the client itself is heard: what is typed is
-/// read ahead.
+/// Keys from standard input, and the requests of its user to the client itself. Of what is typed
+/// nothing is known beforehand. While keys are held back, a user who speaks to the client itself is
+/// served: the bytes that are typed are read ahead.
 #[derive(Drop)]
 pub struct Console<H, K> {
     rt: H,
@@ -66,7 +66,8 @@ pub struct Console<H, K> {
     typing: Typing<H, K>,
     escaping: Escaping,
     terminal: Terminal,
-    // What is still to be given, whether the last read was ahead, and whether there is no room for more.
+    // The inputs that are still to be given, whether the last read was ahead, and whether there is
+    // no room for more.
     kept: VecDeque<SessionInput>,
     is_ahead: bool,
     is_full: bool,
@@ -74,15 +75,15 @@ pub struct Console<H, K> {
     has_ended: bool,
     // When it was seen that the user leaves.
     left: Option<Instant>,
-    // The size that was told last, and has not been said.
+    // The size that came last, and has not been reported.
     resized: Option<WindowSize>,
     // The control function that is asked for after the keys that were given, and was not given.
     asked: Option<Control>,
 }
 
 impl<H: ClientFiles + Clock + Copy + Wait, K: Read + Drop> Console<H, K> {
-    /// Keys that come from there, which is standard input, and what they stand for. With an escape character
-    /// its user speaks to the client itself.
+    /// Makes keys of this source, which is standard input, with the meaning of its bytes. With an
+    /// escape character its user speaks to the client itself.
     pub fn new(rt: H, alloc: Global, mut typing: Typing<H, K>, keyboard: Keyboard) -> Console<H, K>
         ensures escaping { result.escaping ≡ record { keyboard = keyboard; prompt = closed } }
         ensures keys { result.typing.keys ≡ typing.keys }
@@ -106,18 +107,19 @@ impl<H: ClientFiles + Clock + Copy + Wait, K: Read + Drop> Console<H, K> {
         }
     }
 
-    /// Whether a line to the client itself is typed.
+    /// Returns whether a line to the client itself is typed.
     pub(crate) fn is_prompting(&self) -> bool {
         self.escaping.prompt.is_open
     }
 
-    /// The bytes that RETURN sends by the last line to the client itself that asked for them.
+    /// Returns the bytes that RETURN sends by the last line to the client itself that asked for
+    /// them.
     pub(crate) fn asked_return(&self) -> Option<ReturnKey> {
         self.escaping.prompt.returns
     }
 
     // tools/progress: proctype ClientKeys
-    // Waits until a size is told, a key can be given or read, or the session is over.
+    // Waits until a size comes, a key can be given or read, or the session is over.
     fn wait(&self) -> Ready {
         for _ in self.rt.forever() {
             if self.typing.link.is_closed() {
@@ -138,7 +140,7 @@ impl<H: ClientFiles + Clock + Copy + Wait, K: Read + Drop> Console<H, K> {
         Ready::Over
     }
 
-    // What can be done where keys can be given, if there is anything.
+    // Returns what can be done if keys can be given, if there is anything.
     fn look(&self) -> Option<Ready> {
         if self.kept.len() > 0 {
             return Some(Ready::Key);
@@ -164,7 +166,8 @@ impl<H: ClientFiles + Clock + Copy + Wait, K: Read + Drop> Console<H, K> {
         None
     }
 
-    // The same where they are held back. A terminal brings a paste in pieces.
+    // Returns what can be done if keys are held back, if there is anything. A terminal brings a
+    // paste in pieces.
     fn look_ahead(&self) -> Option<Ready> {
         let time = if self.is_ahead { REFILL } else { 0 };
         if self.can_read_ahead() {
@@ -181,7 +184,7 @@ impl<H: ClientFiles + Clock + Copy + Wait, K: Read + Drop> Console<H, K> {
         self.escaping.keyboard.escape.is_some() && !self.is_full && !self.has_ended
     }
 
-    // A size is said between two reads.
+    // Takes a size, which is reported between two reads.
     fn take_size(&mut self)
         ensures keys { self.new.typing.keys ≡ self.old.typing.keys }
         ensures escaping { self.new.escaping ≡ self.old.escaping }
@@ -220,8 +223,8 @@ impl<H: ClientFiles + Clock + Copy + Wait, K: Read + Drop> Console<H, K> {
         self.terminal = terminal;
     }
 
-    // Gives the first of the keys that are kept, or has a control function told; where there is neither, it
-    // is as if a signal had come.
+    // Gives the first of the keys that are kept, or has a control function reported; if there is
+    // neither, it is as if a signal had come.
     fn give(&mut self, buf: &mut [u8]) -> io::Result<usize>
         ensures bound { ReadsAtMost result buf.new }
         ensures inputs { handed_on (given_of result buf.new) self.new.asked ++ self.new.kept.items
@@ -276,7 +279,7 @@ impl<H: ClientFiles + Clock + Copy + Wait, K: Read + Drop> Console<H, K> {
         Ok(0)
     }
 
-    // Reads what is typed, where there is room to keep it. Nothing is given.
+    // Reads the bytes that are typed, if there is room to keep them. It gives nothing.
     fn read_ahead(&mut self, buf: &mut [u8]) -> io::Result<usize>
         ensures bound { ReadsAtMost result buf.new }
         ensures inputs { GivesInputs (K.remaining self.old.typing.keys) (K.remaining self.new.typing.keys)
@@ -292,7 +295,8 @@ impl<H: ClientFiles + Clock + Copy + Wait, K: Read + Drop> Console<H, K> {
         Err(io::Error::from(ErrorKind::Interrupted))
     }
 
-    // Whether the keys that are kept are given up: the user left a while ago, or there is no clock.
+    // Returns whether the keys that are kept are given up: the user left a while ago, or there is
+    // no clock.
     fn is_late(&self) -> bool {
         let Some(left) = self.left else {
             return true;
@@ -303,7 +307,8 @@ impl<H: ClientFiles + Clock + Copy + Wait, K: Read + Drop> Console<H, K> {
         }
     }
 
-    // Waits, since the user leaves, until keys that are kept can be given. False where none will be.
+    // Waits, since the user leaves, until keys that are kept can be given. It returns false if none
+    // will be.
     fn can_still_give(&self) -> bool {
         for _ in self.rt.forever() {
             if self.kept.len() == 0 || self.typing.link.is_closed() {
@@ -320,7 +325,8 @@ impl<H: ClientFiles + Clock + Copy + Wait, K: Read + Drop> Console<H, K> {
         false
     }
 
-    // Once the user leaves, what was typed before is given, as long as it is taken, and then ends.
+    // Gives the keys that were typed before, once the user leaves, as long as they are taken, and
+    // then ends.
     fn leave(&mut self, buf: &mut [u8]) -> io::Result<usize>
         ensures bound { ReadsAtMost result buf.new }
         ensures inputs { handed_on (given_of result buf.new) self.new.asked ++ self.new.kept.items
@@ -338,14 +344,14 @@ impl<H: ClientFiles + Clock + Copy + Wait, K: Read + Drop> Console<H, K> {
         Ok(0)
     }
 
-    // The keys that are kept are given to no session.
+    // Counts the keys that are kept as given to no session.
     fn count_dropped(&self) {
         let keys = kept::count_keys(&self.kept);
         self.typing.link.count_dropped(keys);
     }
 }
 
-// A session of Telnet, as the client describes it to its user.
+// Returns a session of Telnet, as the client describes it to its user.
 fn about<H, K>(typing: &Typing<H, K>) -> About<'_> {
     About {
         link: &typing.link,
@@ -358,7 +364,7 @@ fn about<H, K>(typing: &Typing<H, K>) -> About<'_> {
     }
 }
 
-// A descriptor that is waited at.
+// Returns what `poll` waits for at a descriptor.
 fn waits_at(fd: i32) -> pollfd {
     pollfd {
         fd,

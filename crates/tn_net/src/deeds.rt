@@ -1,4 +1,4 @@
-//! What the user at a terminal asks the client itself for.
+//! The requests of the user at a terminal to the client itself.
 
 use crate::client_files::ClientFiles;
 use crate::escaping::{Echo, EscapeCommand, Next, Obey, Typed};
@@ -30,7 +30,7 @@ const TELNET_HELP: &[u8] = b"send brk, b     send BREAK, which some monitors wai
 const LAST_HELP: &[u8] = b"help, ?         show these lines\r\n\
     An empty line goes back. The escape character again sends itself.\r\n";
 
-/// How many bytes stand before the name of the file in a line that begins a log.
+/// The number of bytes before the name of the file in a line that begins a log.
 const BEFORE_FILE: usize = 4;
 
 /// A connection, as the client describes it to its user.
@@ -44,7 +44,7 @@ pub struct About<'a> {
     pub window: Option<WindowSize>,
 }
 
-/// What the user asks the client itself for is done at once.
+/// The parts of the client that do the user's requests to the client itself, at once.
 #[derive(Drop)]
 pub(crate) struct Deeds<'a, H> {
     pub(crate) rt: H,
@@ -81,7 +81,8 @@ impl<'a, H: ClientFiles + Wait> Obey for Deeds<'a, H> {
 }
 
 impl<'a, H> Deeds<'a, H> {
-    // The connection is closed, if whoever started the program hears what is to follow.
+    // Closes the connection, if the launcher, which started the program, gets the word for what is
+    // to follow.
     fn close(&mut self, next: Next) {
         if self.terminal.leave(next) {
             self.about.link.leave();
@@ -90,7 +91,7 @@ impl<'a, H> Deeds<'a, H> {
         }
     }
 
-    /// Says that no control function goes to a service that takes lines.
+    /// Shows that no control function goes to a service that takes lines.
     pub(crate) fn refuse_control(&mut self) {
         self.terminal
             .show(b"without Telnet no control function can be sent\r\n");
@@ -110,7 +111,7 @@ impl<'a, H> Deeds<'a, H> {
         self.terminal.show(text);
     }
 
-    // Says what RETURN sends from now on by a line.
+    // Shows the bytes that RETURN sends from then on, as a line asked.
     fn show_return(&mut self, line: &[u8]) {
         if self.about.window.is_none() {
             self.terminal.show(b"without Telnet --lf and --cr choose what RETURN sends\r\n");
@@ -191,7 +192,8 @@ fn write_counts(text: &mut Vec<u8>, link: &Link) {
     let _ = write!(text, "{} {} came, {} went\r\n", came, bytes, went);
 }
 
-// A line with the user's own characters that a session gets as other ones, if there are any.
+// Appends a line with the user's own characters that a session gets as other ones, if there are
+// any.
 fn write_own(text: &mut Vec<u8>, own: &OwnCharacters) {
     let before = write_one(text, own, "your own keys:", "intr", own.intr);
     let before = write_one(text, own, before, "quit", own.quit);
@@ -223,7 +225,7 @@ fn write_one(
     ","
 }
 
-// A key as `stty` shows it.
+// Returns a key as `stty` shows it.
 fn write_key(text: &mut Vec<u8>, key: u8) {
     let meta = if key < 128 { "" } else { "M-" };
     let low = key % 128;
@@ -235,8 +237,9 @@ fn write_key(text: &mut Vec<u8>, key: u8) {
     let _ = write!(text, "{}{}{}", meta, caret, char::from(sign));
 }
 
-// Who edits lines. Without LINEMODE a server that echoes takes keys one by one and edits them, as a rule; if
-// it does not echo, nobody edits them but the client in line mode.
+// Returns the text for the side that edits lines. Without LINEMODE a server that echoes takes keys
+// one by one and edits them, as a rule; if it does not echo, only the client in line mode edits
+// them.
 fn editing_of(link: &Link) -> &'static str {
     if link.edits_here() {
         return "lines are edited here";

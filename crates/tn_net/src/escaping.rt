@@ -12,7 +12,7 @@ use crate::returns::{ReturnKey, is};
 use std::collections::VecDeque;
 use tn_cores::streams::Control;
 
-/// What becomes of a user whose connection is closed.
+/// The fate of a user whose connection is closed.
 #[derive(Clone, Copy, PartialEq, Eq)]
 pub enum Next {
     Leaves,
@@ -20,7 +20,7 @@ pub enum Next {
     Returns,
 }
 
-/// What the user asks the client itself for.
+/// A request of the user to the client itself.
 #[derive(Clone, Copy, PartialEq, Eq)]
 pub enum EscapeCommand {
     /// `quit`, `close` or `q`: close the connection; and `again`: close it, and connect again.
@@ -43,20 +43,21 @@ pub enum EscapeCommand {
     Unknown,
 }
 
-/// What a typed byte is.
+/// The input that a typed byte is.
 #[derive(Clone, Copy, PartialEq, Eq)]
 pub enum Typed {
     /// A key of the session.
     Key(u8),
-    /// It ends a line that asks for a control function: `send brk`, `send ip`, `send ayt`, or one letter.
+    /// The byte ends a line that asks for a control function: `send brk`, `send ip`, `send ayt`, or
+    /// one letter.
     Control(Control),
-    /// It ends a line that is a command to the client itself.
+    /// The byte ends a line that is a command to the client itself.
     Command(EscapeCommand),
-    /// It begins such a line, edits it, or ends an empty one.
+    /// The byte begins such a line, edits it, or ends an empty one.
     Nothing,
 }
 
-/// What is shown of a byte that is typed to the client itself.
+/// The text that is shown of a byte that is typed to the client itself.
 #[derive(Clone, Copy, Debug, PartialEq, Eq)]
 pub enum Echo {
     Nothing,
@@ -72,7 +73,7 @@ pub enum Echo {
     Refused,
 }
 
-/// What a session gets of what is typed.
+/// An input of a session, of the bytes that are typed.
 #[derive(Clone, Copy, PartialEq, Eq)]
 pub enum SessionInput {
     Key(u8),
@@ -83,10 +84,10 @@ pub enum SessionInput {
 pub trait Obey {
     ghost use Rattle.tn_net.specs.declared.escaping.EscapeCommand.{EscapeCommand};
 
-    // The commands that were obeyed, where that is told.
+    // The commands that were obeyed, if they are known.
     ghost obeyed: { Self → Option (List EscapeCommand) } = { λ _. None };
 
-    /// The command is what this line asks for.
+    /// Obeys the command, which this line asks for.
     fn obey(&mut self, command: EscapeCommand, line: &[u8])
         ensures { Obeys (obeyed self.old) (command ∷ []) (obeyed self.new) };
 
@@ -95,7 +96,7 @@ pub trait Obey {
         ensures { Obeys (obeyed self.old) [] (obeyed self.new) };
 }
 
-// A key as it is given to a session: CR, which goes as CR NUL, is RETURN.
+// Returns a key as it is given to a session: CR, which goes as CR NUL, is RETURN.
 fn given(returns: ReturnKey, key: u8) -> Typed
     ensures { result ≡ typed_as (returned returns key) }
 {
@@ -106,7 +107,7 @@ fn given(returns: ReturnKey, key: u8) -> Typed
     }
 }
 
-/// What the bytes that are typed stand for.
+/// The meaning of the bytes that are typed.
 #[derive(Clone, Copy, PartialEq, Eq)]
 pub struct Keyboard {
     /// The escape character, if there is one. It comes first, also if it is one of the user's own characters.
@@ -115,14 +116,14 @@ pub struct Keyboard {
     pub own: OwnCharacters,
     /// The characters that edit a line which is typed to the client itself.
     pub editing: OwnCharacters,
-    /// What RETURN sends.
+    /// The bytes that RETURN sends.
     pub returns: ReturnKey,
-    /// Whether a line to the client itself may change that.
+    /// Whether a line to the client itself may change those.
     pub may_change: bool,
 }
 
 impl Keyboard {
-    /// Every byte is a key, and stands for itself.
+    /// Makes the meaning by which every byte is a key, and stands for itself.
     pub fn of_bytes() -> Keyboard
         ensures { result ≡ of_bytes }
     {
@@ -145,7 +146,7 @@ pub struct Escaping {
 }
 
 impl Escaping {
-    /// Nothing was typed yet.
+    /// Makes the state in which nothing was typed yet.
     pub fn new(keyboard: Keyboard) -> Escaping
         ensures { result ≡ record { keyboard = keyboard; prompt = closed } }
     {
@@ -155,8 +156,9 @@ impl Escaping {
         }
     }
 
-    /// What this byte is, after those before it. The escape character begins a line to the client itself; on
-    /// an empty one it is a key. No other byte of such a line is a key.
+    /// Returns the input that this byte is, after those before it. The escape character begins a
+    /// line to the client itself; on an empty one it is a key. No other byte of such a line is a
+    /// key.
     pub fn take(&mut self, byte: u8) -> Typed
         ensures typed { result ≡ reading self.old byte }
         ensures keyboard { self.new.keyboard ≡ self.old.keyboard }
@@ -167,7 +169,7 @@ impl Escaping {
         typed
     }
 
-    // What this byte is.
+    // Returns the input that this byte is.
     fn typed(&self, byte: u8) -> Typed
         ensures { result ≡ reading self.now byte }
     {
@@ -187,7 +189,7 @@ impl Escaping {
         given(self.returns(), self.keyboard.own.mapped(byte))
     }
 
-    // What RETURN sends.
+    // Returns what RETURN sends.
     fn returns(&self) -> ReturnKey
         ensures { result ≡ returns_of self.now.keyboard self.now.prompt }
     {
@@ -197,7 +199,7 @@ impl Escaping {
         }
     }
 
-    // The line after this byte.
+    // Returns the line after this byte.
     fn advance(&mut self, byte: u8)
         ensures keyboard { self.new.keyboard ≡ self.old.keyboard }
         ensures prompt { self.new.prompt ≡ prompt_after self.old.keyboard self.old.prompt byte }
@@ -223,7 +225,7 @@ impl Escaping {
         edit_of(&self.keyboard.editing, self.prompt.sequence, byte)
     }
 
-    // What is shown of this byte.
+    // Returns the text that is shown of this byte.
     pub(crate) fn echo(&self, byte: u8) -> Echo {
         if !self.prompt.is_open {
             return if self.is_escape(byte) {
@@ -295,7 +297,7 @@ impl Escaping {
     }
 }
 
-// What the escape character is after these bytes of a line.
+// Returns the input that the escape character is after these bytes of a line.
 fn typed_again(line: &[u8], byte: u8) -> Typed
     ensures { result ≡ typed_again line.now byte }
 {
@@ -305,7 +307,7 @@ fn typed_again(line: &[u8], byte: u8) -> Typed
     Typed::Nothing
 }
 
-// What a line to the client itself is.
+// Returns the input that a line to the client itself is.
 fn meant(line: &[u8]) -> Typed
     ensures { result ≡ meant line.now }
 {
@@ -357,7 +359,7 @@ fn command_of(line: &[u8]) -> EscapeCommand
     EscapeCommand::Unknown
 }
 
-// Whether the line is one of these.
+// Returns whether the line is one of these.
 fn is_one(line: &[u8], letter: &[u8], word: &[u8]) -> bool
     ensures { result ≡ is_one line.now letter.now word.now }
 {

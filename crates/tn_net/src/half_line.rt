@@ -1,4 +1,4 @@
-//! A half line that is edited at the client, on the screen that its user sees.
+//! A half-typed line that is edited at the client, on the screen that its user sees.
 
 ghost use Rattle.std.specs.Prelude.{◌≤◌, length};
 
@@ -14,8 +14,8 @@ const QUIT: u8 = 28;
 
 const SUSP: u8 = 26;
 
-/// A half line on the screen of a terminal. It is taken off before anything else is shown there, and put back
-/// after that. Bytes that the terminal does not take are dropped.
+/// A half-typed line on the screen of a terminal. It is taken off before anything else is shown
+/// there, and put back after that. Bytes that the terminal does not take are dropped.
 #[derive(Drop)]
 pub(crate) struct HalfLine {
     pub(crate) editor: LineEditor,
@@ -34,12 +34,14 @@ pub(crate) struct HalfLine {
     after_return: bool,
     /// The bytes of lines that ended, of which the session's echo has not come.
     entered: Vec<u8>,
-    /// Those of them that ended while the half line was off the screen, and are to be shown before it.
+    /// Those of them that ended while the half-typed line was off the screen, and are to be shown
+    /// before it.
     due: Vec<u8>,
 }
 
 impl HalfLine {
-    /// The half line of this editor. If the screen is not shared, it stays there until it ends.
+    /// Makes the half-typed line of this editor. If the screen is not shared, it stays there until
+    /// it ends.
     pub(crate) fn new(
         alloc: Global,
         editor: LineEditor,
@@ -87,12 +89,12 @@ impl HalfLine {
         Ok(taken)
     }
 
-    // What a key does is shown at once.
+    // Returns whether the effect of a key is shown at once.
     fn is_drawn(&self) -> bool {
         !self.is_off && !self.is_stopped
     }
 
-    // Whether a key stops the screen, or lets it go on. A signal lets it go on too.
+    // Returns whether a key stops the screen, or lets it go on. A signal lets it go on too.
     fn controls_flow(&mut self, key: u8) -> bool {
         if Some(key) == self.stop {
             self.is_stopped = true;
@@ -124,12 +126,12 @@ impl HalfLine {
         self.draw_again();
     }
 
-    /// Whether the user has stopped the screen.
+    /// Returns whether the user has stopped the screen.
     pub(crate) fn is_stopped(&self) -> bool {
         self.is_stopped
     }
 
-    // The line ended, which is shown now or once the half line is put back.
+    // Takes the end of the line, which is shown at once, or when the half-typed line is put back.
     fn enter(&mut self, line: &[u8], end: &[u8]) -> Result<(), AllocError> {
         self.entered.extend_from_slice(line)?;
         self.entered.extend_from_slice(end)?;
@@ -140,7 +142,7 @@ impl HalfLine {
         Ok(())
     }
 
-    /// Takes the half line off the screen, since something else is to be shown there.
+    /// Takes the half-typed line off the screen, since something else is to be shown there.
     pub(crate) fn take_off(&mut self) {
         if self.is_shared && !self.is_left {
             let _drawn = self.editor.take_off();
@@ -169,7 +171,7 @@ impl HalfLine {
         self.show();
     }
 
-    /// Takes the half line off the screen for good. `line` gets its bytes.
+    /// Takes the half-typed line off the screen for good. `line` gets its bytes.
     pub(crate) fn give_up(&mut self, line: &mut Vec<u8>) -> Result<(), AllocError> {
         self.go_on();
         self.editor.copy(line)?;
@@ -180,13 +182,13 @@ impl HalfLine {
         drawn
     }
 
-    /// The window has this width from now on; 0 if that is not known.
+    /// Sets the window's width; 0 if that is not known.
     pub(crate) fn resize(&mut self, width: u16) {
         self.editor.set_window(width);
     }
 
-    /// Follows whether a line to the client itself is typed: the half line stays above it, and is shown again below it
-    /// once that line ended.
+    /// Follows whether a line to the client itself is typed: the half-typed line stays above it,
+    /// and is shown again below it once that line ended.
     pub(crate) fn follow_prompt(&mut self, is_prompting: bool) {
         if is_prompting && !self.is_left {
             self.editor.leave();
@@ -197,7 +199,7 @@ impl HalfLine {
         }
     }
 
-    // Shows the half line again at the left edge.
+    // Shows the half-typed line again at the left edge.
     fn show_again(&mut self) {
         self.is_left = false;
         if !self.is_off {
@@ -243,7 +245,7 @@ impl HalfLine {
         bytes.len()
     }
 
-    // Shows the lines that ended while the half line was off the screen.
+    // Shows the lines that ended while the half-typed line was off the screen.
     fn show_due(&mut self) {
         if let Some(screen) = &mut self.screen {
             let _written = screen.write_all(&self.due);

@@ -1,4 +1,4 @@
-//! Which lines are held at the client until they end.
+//! The lines that are held at the client until they end.
 
 /// The lines that are edited at the client before its session gets them.
 #[derive(Clone, Copy, PartialEq, Eq)]

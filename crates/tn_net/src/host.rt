@@ -7,9 +7,9 @@ use std::sync::Wait;
 use std::thread::Threads;
 use std::time::Clock;
 
-/// What a session over a connection needs from the machine that it runs on, besides the network:
-/// threads and waits, the clock, standard output for what a client tells its user at a terminal, a log, and
-/// the files of a client.
+/// The capabilities that a session over a connection needs from its machine, besides the network:
+/// threads and waits, the clock, standard output for a client's lines to its user at a terminal, a
+/// log, and the files of a client.
 pub trait Host: ClientFiles + Clock + Log + Print + Threads + Wait + Copy + Send + 'static {}
 
 impl<H> Host for H

@@ -1,4 +1,4 @@
-//! What a client's connection brings.
+//! The bytes that a client's connection brings.
 
 ghost use Rattle.std.specs.{Prelude.{◌≡◌, None}, Io.{ReadsAtMost, KnownBytes.ReadConsumes}};
 ghost use Rattle.tn_net.specs.Passing.{HandsOn};
@@ -11,7 +11,8 @@ use std::io::{ErrorKind, Read};
 use std::sync::{Arc, Wait};
 use std::time::Clock;
 
-/// What the peer sends. That no more comes is noted, so that the keys can end too.
+/// The reading side of a client's connection. It notes the end of the stream, so that the keys can
+/// end too.
 #[derive(Drop)]
 pub struct Incoming<H, N> {
     reader: N,
@@ -20,7 +21,7 @@ pub struct Incoming<H, N> {
 }
 
 impl<H, N> Incoming<H, N> {
-    /// What comes from there.
+    /// Makes the reading side of a connection.
     pub fn new(reader: N, link: Arc<Link, Global>, trace: Trace<H>) -> Incoming<H, N>
         ensures { result.reader ≡ reader }
     {
@@ -31,7 +32,7 @@ impl<H, N> Incoming<H, N> {
         }
     }
 
-    /// What the parts of the connection know of each other.
+    /// Returns the state that the parts of the connection share.
     pub fn link(&self) -> &Arc<Link, Global> {
         &self.link
     }

@@ -1,5 +1,5 @@
-//! What was typed and is still to be given to a session: a queue of keys, with the control functions that are
-//! asked for between them.
+//! The inputs that were typed and are still to be given to a session: a queue of keys, with the
+//! control functions that are requested between them.
 
 ghost use Rattle.std.specs.Prelude.{◌≡◌, ◌≤◌, ◌<◌, ◌+◌, ◌++◌, IsTrue, None, length, map, option_to_list};
 ghost use Rattle.std.specs.{Prelude.take, List.count_by, VecDeque.{deque_capacity, deque_len}};
@@ -10,10 +10,10 @@ use crate::escaping::SessionInput;
 use std::collections::VecDeque;
 use tn_cores::streams::Control;
 
-/// How many keys are kept at most: 16 million.
+/// The most keys that are kept: 16 million.
 const MAX_KEPT: usize = 16_777_216;
 
-/// Whether so many more can be kept.
+/// Returns whether this number more can be kept.
 pub(crate) fn makes_room(kept: &mut VecDeque<SessionInput>, count: usize) -> bool
     ensures kept { kept.new.items ≡ kept.old.items }
     ensures room { IsTrue result → deque_len kept.new + count ≤ deque_capacity kept.new }
@@ -21,7 +21,7 @@ pub(crate) fn makes_room(kept: &mut VecDeque<SessionInput>, count: usize) -> boo
     kept.len() < MAX_KEPT && kept.reserve(count).is_ok()
 }
 
-/// How many of what is kept are keys.
+/// Returns how many of the kept inputs are keys.
 pub(crate) fn count_keys(kept: &VecDeque<SessionInput>) -> usize
     ensures { result ≡ count_by is_key kept.now.items }
 {

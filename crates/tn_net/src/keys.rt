@@ -11,8 +11,8 @@ use std::io;
 use std::io::Read;
 use std::sync::{Arc, Wait};
 
-/// Where keys come from: their reader, what holds them back, the connection that they are for, and the window
-/// in which they are typed.
+/// The source of keys: their reader, the throttle that holds them back, the connection that they
+/// are for, and the window in which they are typed.
 #[derive(Drop)]
 pub struct Typing<H, K> {
     pub keys: K,
@@ -36,7 +36,7 @@ pub struct Keys<H, K> {
 }
 
 impl<H, K> Keys<H, K> {
-    /// The keys that come from there.
+    /// Makes the keys of this source.
     pub fn new(typing: Typing<H, K>) -> Keys<H, K>
         ensures { result.typing ≡ typing }
     {

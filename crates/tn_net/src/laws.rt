@@ -1,4 +1,4 @@
-//! Laws of what is typed, over the definitions alone.
+//! Laws of the typed inputs, only over the definitions.
 
 ghost use Rattle.std.specs.Prelude.{◌≡◌, ◌==◌, ℕ, None, Option, Some, List, [], ◌∷◌, ◌++◌, IsFalse, IsTrue, map};
 ghost use Rattle.std.specs.List.{All};
@@ -14,7 +14,7 @@ ghost use Rattle.tn_net.specs.declared.{escaping.Keyboard.Keyboard, returns.Retu
 ghost use Rattle.tn_net.specs.declared.own_characters.OwnCharacters.{OwnCharacters};
 ghost use Rattle.tn_net.specs.declared.escaping.Typed.TheVariants as typed;
 
-/// Where there is no escape character and no character of the user's own, every byte is a key.
+/// If there is no escape character and no character of the user's own, every byte is a key.
 pub fn every_byte_is_a_key()
     ensures { (bytes : List ℕ) → inputs of_bytes closed bytes ≡ map Key bytes }
 {}
@@ -38,7 +38,7 @@ pub fn other_bytes_stay()
     ensures { (own : OwnCharacters) (byte : ℕ) → own_function own byte ≡ None → mapped own byte ≡ byte }
 {}
 
-/// Where the user's own characters are the standard ones, every byte stays.
+/// If the user's own characters are the standard ones, every byte stays.
 pub fn standard_characters_change_nothing()
     ensures { (byte : ℕ) → mapped standard_own byte ≡ byte }
 {}
@@ -51,14 +51,15 @@ pub fn only_keys_are_mapped()
         commands keyboard prompt bytes ≡ commands (unmapped keyboard) prompt bytes }
 {}
 
-/// What RETURN is to send changes no other key, and no line to the client itself.
+/// The bytes that RETURN is to send change no other key, and no line to the client itself.
 pub fn only_return_is_changed()
     ensures { (keyboard : Keyboard) (prompt : Prompt) (byte : ℕ) (returns : Option ReturnKey) →
         IsFalse (byte == 13) → typed_after keyboard prompt byte
         ≡ typed_after keyboard (record prompt { returns = returns }) byte }
 {}
 
-/// Of a line that is typed to the client itself no byte is a key, but the escape character on an empty one.
+/// No byte of a line that is typed to the client itself is a key, but the escape character on an
+/// empty one.
 pub fn no_line_is_sent()
     ensures { (keyboard : Keyboard) (prompt : Prompt) (byte key : ℕ) → IsTrue prompt.is_open →
         typed_after keyboard prompt byte ≡ typed.Key key →

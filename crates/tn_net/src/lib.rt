@@ -19,9 +19,10 @@
 //! escaping.take(b'\r'); // Typed::Command(EscapeCommand::Close(Next::Leaves))
 //! ```
 //!
-//! It starts no thread and no session. Nothing is proved of what a socket or a terminal carries. It is proved
-//! that both sides of a connection hand on what their stream gives and takes, that what is sent is what was
-//! queued, in order, and that keys of a reader are its bytes.
+//! It starts no thread and no session. The bytes that a socket or a terminal carries are not
+//! proved. It is proved that both sides of a connection pass on the bytes that their stream gives
+//! and takes, that the bytes sent are those that were queued, in order, and that keys of a reader
+//! are its bytes.
 #![tactic(auto)]
 
 pub use attended::{Attended, Standing};

@@ -26,7 +26,7 @@ const START: u8 = 17;
 
 const STOP: u8 = 19;
 
-/// How the user edits lines at a terminal.
+/// The settings of line editing at a terminal.
 #[derive(Clone, Copy, PartialEq, Eq)]
 pub struct EditorSettings {
     /// The editing keys that a plain terminal lacks.
@@ -41,9 +41,9 @@ pub struct EditorSettings {
 }
 
 impl EditorSettings {
-    /// As at a new terminal of Linux: ^W is WERASE, ^R is REPRINT, ^S stops the screen and ^Q lets it go on, characters are
-    /// UTF-8, control characters are shown as a circumflex and a letter, and Up and Down bring lines that were typed
-    /// before.
+    /// Makes the settings of a new terminal of Linux: ^W is WERASE, ^R is REPRINT, ^S stops the
+    /// screen and ^Q lets it go on, characters are UTF-8, control characters are shown as a
+    /// circumflex and a letter, and Up and Down bring lines that were typed before.
     pub fn usual() -> EditorSettings {
         EditorSettings {
             keys: EditKeys {
@@ -70,7 +70,7 @@ pub(crate) enum Closing {
 }
 
 impl Closing {
-    /// The bytes that a terminal shows of it.
+    /// Returns the bytes that a terminal shows of it.
     pub(crate) fn echo(self) -> &'static [u8] {
         match self {
             Closing::NewLine => b"\r\n",
@@ -82,11 +82,11 @@ impl Closing {
 /// The outcome of a key.
 #[derive(Clone, Copy, PartialEq, Eq)]
 pub(crate) enum Taken {
-    /// It edited the line, or did nothing.
+    /// The key edited the line, or did nothing.
     Edit,
-    /// It is a signal or the end of file, which goes by itself.
+    /// The key is a signal or the end of file, which goes by itself.
     Alone(u8),
-    /// It ended the line.
+    /// The key ended the line.
     Line(Closing),
 }
 
@@ -112,8 +112,9 @@ pub(crate) struct LineEditor {
 }
 
 impl LineEditor {
-    /// Nothing was typed yet. A line has at most `limit` bytes with its closing byte, and never more than `most`. The
-    /// window has so many columns; 0 if that is not known.
+    /// Makes an editor at which nothing was typed yet. A line has at most `limit` bytes with its
+    /// closing byte, and never more than `most`. The window has this number of columns; 0 if that
+    /// is not known.
     pub(crate) fn new(
         alloc: Global,
         limit: Limit,
@@ -142,7 +143,7 @@ impl LineEditor {
         })
     }
 
-    /// How many bytes the half line has.
+    /// Returns the number of bytes of the half-typed line.
     pub(crate) fn count(&self) -> usize {
         self.editor
             .half_line()
@@ -150,20 +151,20 @@ impl LineEditor {
             .saturating_add(self.rest.len())
     }
 
-    /// Puts the bytes of the half line into `line`.
+    /// Puts the bytes of the half-typed line into `line`.
     pub(crate) fn copy(&self, line: &mut Vec<u8>) -> Result<(), AllocError> {
         line.clear();
         line.extend_from_slice(self.editor.half_line())?;
         line.extend_from_slice(&self.rest)
     }
 
-    /// The bytes that show what was done last.
+    /// Returns the bytes that show what was done last.
     pub(crate) fn drawing(&self) -> &[u8] {
         &self.drawing
     }
 
-    /// From now on an empty line goes on to at most so many bytes with its closing byte, and a signal in it leaves it as
-    /// it is, or drops it.
+    /// Begins an empty line of at most this number of bytes with its closing byte, in which a
+    /// signal leaves it as it is, or drops it.
     pub(crate) fn begin(&mut self, limit: Limit, keeps_at_signal: bool) -> Result<(), AllocError> {
         self.keeps_at_signal = keeps_at_signal;
         if self.limit != limit {
@@ -174,7 +175,7 @@ impl LineEditor {
         Ok(())
     }
 
-    /// Has the line shown or not from now on.
+    /// Sets whether the line is shown.
     pub(crate) fn set_echo(&mut self, echo: bool) {
         if self.settings.flags.echo != echo {
             self.settings.flags.echo = echo;
@@ -259,7 +260,7 @@ impl LineEditor {
         }
     }
 
-    // Whether the character that a byte begins has room in the line.
+    // Returns whether the character that a byte begins has room in the line.
     fn has_room(&self, byte: u8) -> bool {
         let wanted = first_character(&[byte, 0, 0, 0], self.keys.iutf8).len();
         let most = usize::from(self.limit.bytes());
@@ -401,7 +402,7 @@ impl LineEditor {
         Ok(())
     }
 
-    // Brings the line before or after, in place of the half line.
+    // Brings the line before or after, in place of the half-typed line.
     fn recall(&mut self, arrow: Arrow, draws: bool) -> Result<(), AllocError> {
         if !self.find(arrow)? {
             self.drawing.push(BELL)?;
@@ -437,26 +438,26 @@ impl LineEditor {
         Ok(is_there)
     }
 
-    /// Draws that the half line is taken off.
+    /// Draws that the half-typed line is taken off.
     pub(crate) fn take_off(&mut self) -> Result<(), AllocError> {
         self.drawing.clear();
         self.wipe_rest(true)?;
         self.drawn.away(&mut self.drawing)
     }
 
-    /// Follows output that was shown while the half line was off the screen.
+    /// Follows output that was shown while the half-typed line was off the screen.
     pub(crate) fn follow(&mut self, output: &[u8]) {
         self.drawn.shown(output);
     }
 
-    /// Draws the half line again.
+    /// Draws the half-typed line again.
     pub(crate) fn put_back(&mut self) -> Result<(), AllocError> {
         self.drawing.clear();
         self.drawn.again(&self.editor, &mut self.drawing)?;
         self.show_rest(true)
     }
 
-    /// Gives the half line up, and draws that it is taken off.
+    /// Gives the half-typed line up, and draws that it is taken off.
     pub(crate) fn give_up(&mut self) -> Result<(), AllocError> {
         let drawn = self.take_off();
         let _kill = self.editor.key(KILL);
@@ -464,7 +465,7 @@ impl LineEditor {
         drawn
     }
 
-    /// Leaves the half line on the screen: something else begins a row below it.
+    /// Leaves the half-typed line on the screen: something else begins a row below it.
     pub(crate) fn leave(&mut self) {
         let count = self.drawing.len();
         let _drawn = self.drawn.away(&mut self.drawing);
@@ -472,7 +473,8 @@ impl LineEditor {
     }
 }
 
-// Whether a key of this role did not join the half line, whose bytes are counted before and after it.
+// Returns whether a key of this role did not join the half-typed line, whose bytes are counted
+// before and after it.
 fn is_dropped(role: EditRole, presses: Presses, before: usize, after: usize) -> bool {
     matches!(role, EditRole::Plain(Role::Ordinary(_))) && presses.count > 0 && before == after
 }

@@ -40,7 +40,7 @@ const KILL: u8 = 21;
 
 const RETURN: u8 = b'\r';
 
-/// How lines are edited at the client.
+/// The way in which lines are edited at the client.
 #[derive(Drop)]
 pub struct LineMode {
     /// The most bytes in a line of line mode, if there is line mode.
@@ -55,12 +55,13 @@ pub struct LineMode {
     pub width: u16,
 }
 
-/// The keys of a console. A line that is edited at the client is shown there unless the other end echoes, and goes
-/// once it ends. The session's echo of its keys is not shown again. A line is edited at the client in line mode, and
-/// while LINEMODE has the client edit (RFC 1184, section 2.2, EDIT) by the standard characters and without a forward
-/// mask. Line mode lasts as long as the other end neither has LINEMODE on nor suppresses GO AHEAD (RFC 854, "The Network
-/// Virtual Terminal"), and a line of it goes with CR LF if the user chose nothing else. At any other time each key goes
-/// at once, and a half line goes before it.
+/// The keys of a console. A line that is edited at the client is shown there unless the other end
+/// echoes, and goes once it ends. The session's echo of its keys is not shown again. A line is
+/// edited at the client in line mode, and while LINEMODE has the client edit (RFC 1184, section
+/// 2.2, EDIT) by the standard characters and without a forward mask. Line mode lasts as long as the
+/// other end neither has LINEMODE on nor suppresses GO AHEAD (RFC 854, "The Network Virtual
+/// Terminal"), and a line of it goes with CR LF if the user chose nothing else. At any other time
+/// each key goes at once, and a half-typed line goes before it.
 #[derive(Drop)]
 pub struct LineKeys<H, K> {
     rt: H,
@@ -84,7 +85,11 @@ pub struct LineKeys<H, K> {
 }
 
 impl<H: ClientFiles + Clock + Copy + Wait, K: Read + Drop> LineKeys<H, K> {
-    /// The keys of this console, which are for this connection.
+    /// Makes the keys of this console, for this connection.
+    ///
+    /// # Errors
+    ///
+    /// - `AllocError`: there is no memory for a line.
     pub fn new(
         rt: H,
         alloc: Global,
@@ -127,8 +132,8 @@ impl<H: ClientFiles + Clock + Copy + Wait, K: Read + Drop> LineKeys<H, K> {
         })
     }
 
-    // The lines that are held now. The end of a line whose beginning has gone goes as it is typed, so that ERASE still
-    // takes back what has gone.
+    // Returns the lines that are held at present. The end of a line whose beginning has gone goes
+    // as it is typed, so that ERASE still takes back the bytes that have gone.
     fn held(&self) -> Holding {
         match self.link.holding() {
             Holding::Edit if self.is_midline => Holding::Nothing,
@@ -136,7 +141,8 @@ impl<H: ClientFiles + Clock + Copy + Wait, K: Read + Drop> LineKeys<H, K> {
         }
     }
 
-    // Sets the editor for the lines that are held now, and returns which these are. The half line of others goes.
+    // Sets the editor for the lines that are held at present, and returns which these are. The
+    // half-typed line of others goes.
     fn begin(&mut self) -> io::Result<Holding> {
         if self.held() != self.holding {
             self.give_half_up()?;
@@ -159,7 +165,7 @@ impl<H: ClientFiles + Clock + Copy + Wait, K: Read + Drop> LineKeys<H, K> {
         Ok(())
     }
 
-    // Takes a key: it edits the line, or goes after the half line.
+    // Takes a key: it edits the line, or goes after the half-typed line.
     fn take(&mut self, key: u8) -> io::Result<()> {
         if self.begin()? != Holding::Nothing {
             return self.edit(key);
@@ -223,7 +229,7 @@ impl<H: ClientFiles + Clock + Copy + Wait, K: Read + Drop> LineKeys<H, K> {
         Ok(())
     }
 
-    // Takes the half line off the screen, and has its bytes given as keys.
+    // Takes the half-typed line off the screen, and has its bytes given as keys.
     fn give_half_up(&mut self) -> io::Result<()> {
         if self.take_half()? {
             self.link.note_half(Holding::Nothing);
@@ -233,7 +239,7 @@ impl<H: ClientFiles + Clock + Copy + Wait, K: Read + Drop> LineKeys<H, K> {
         Ok(())
     }
 
-    // Takes the half line off the screen, into `line`. False if there is none.
+    // Takes the half-typed line off the screen, into `line`. False if there is none.
     fn take_half(&mut self) -> Result<bool, AllocError> {
         let mut half = self.link.half().lock(&self.rt);
         match &mut *half {
@@ -253,7 +259,7 @@ impl<H: ClientFiles + Clock + Copy + Wait, K: Read + Drop> LineKeys<H, K> {
         Ok(())
     }
 
-    // The input that goes after a line, if any does.
+    // Returns the input that goes after a line, if any does.
     fn ended_by(&self, closing: Closing) -> Option<SessionInput> {
         match (closing, self.holding) {
             (Closing::NewLine, Holding::Edit) => Some(SessionInput::Key(RETURN)),
@@ -273,7 +279,7 @@ impl<H: ClientFiles + Clock + Copy + Wait, K: Read + Drop> LineKeys<H, K> {
         }
     }
 
-    // The input that RETURN is after a line of line mode.
+    // Returns the input that RETURN is after a line of line mode.
     fn new_line(&self) -> SessionInput {
         match self.console.asked_return().or(self.returns) {
             Some(ReturnKey::CrNul) => SessionInput::Key(RETURN),

@@ -1,4 +1,4 @@
-//! What the parts of a client's connection know of each other.
+//! The state that the parts of a client's connection share.
 
 ghost use Rattle.std.specs.Prelude.{◌≤◌, length};
 
@@ -16,8 +16,8 @@ use std::sync::{Mutex, OnceLock, Wait};
 use std::time::{Clock, Duration};
 use std::{mem, thread};
 
-/// How often what is sent may have to wait once the user has left, and once nothing more comes. Each time
-/// takes as long as a write waits.
+/// The most waits of the sender once the user has left, and once nothing more comes. Each takes as
+/// long as a write waits.
 const MAX_LATE: usize = 4;
 
 const MAX_LINGER: usize = 50;
@@ -27,7 +27,7 @@ const MAX_LINGER: usize = 50;
 #[derive(Drop)]
 pub struct Link {
     stream: OnceLock<TcpStream>,
-    /// Nothing more comes, of which the bell tells.
+    /// Nothing more comes; the bell is rung for that.
     closed: AtomicBool,
     bell: Bell,
     /// Reading from it failed.
@@ -43,36 +43,37 @@ pub struct Link {
     suppressed: AtomicBool,
     /// Lines may be edited at this end although LINEMODE is not on.
     has_line_mode: AtomicBool,
-    /// How often something could not be sent at once since the user left, or since nothing more comes.
+    /// The number of writes that could not be sent at once since the user left, or since nothing
+    /// more comes.
     late: AtomicUsize,
-    /// How many keys were typed and never came to the session.
+    /// The number of keys that were typed and never came to the session.
     dropped: AtomicUsize,
     edits_here: AtomicBool,
-    /// A line that LINEMODE has edited here may go as a whole.
+    /// A line that LINEMODE has edited at the client may go as a whole.
     goes_whole: AtomicBool,
     echoes_there: AtomicBool,
-    /// How many bytes of a line are held here.
+    /// The number of bytes of a line that the client holds.
     held: AtomicUsize,
-    /// A half line was typed, and is held: in line mode, and by LINEMODE.
+    /// A half-typed line was typed, and is held: in line mode, and by LINEMODE.
     has_half: AtomicBool,
     has_edited_half: AtomicBool,
-    /// What the session shows next is an echo of keys.
+    /// The bytes that the session shows next are an echo of keys.
     is_echoing: AtomicBool,
     /// Keys that were read wait to be taken.
     has_keys: AtomicBool,
-    /// The half line as it is shown, if there is a terminal to show it at.
+    /// The half-typed line as it is shown, if there is a terminal to show it at.
     half: Mutex<Option<HalfLine>>,
     came: AtomicUsize,
     went: AtomicUsize,
-    /// What gets what the screen gets, whether the time stands before each line, and whether one of all logs
-    /// lacks something.
+    /// The file that gets what the screen gets, whether the time stands before each line, and
+    /// whether one of all logs lacks something.
     log: Mutex<Option<ScreenLog>>,
     log_has_times: AtomicBool,
     log_lacks: AtomicBool,
 }
 
 impl Link {
-    /// Nothing is connected yet.
+    /// Makes the state before a connection.
     pub fn new() -> Link {
         Link {
             stream: OnceLock::new(),
@@ -121,12 +122,12 @@ impl Link {
         mem::replace(&mut *log, None).is_some()
     }
 
-    /// Whether each file has all that the screen got while it was the log.
+    /// Returns whether each file has all that the screen got while it was the log.
     pub fn is_log_whole(&self) -> bool {
         !self.log_lacks.load(Ordering::SeqCst)
     }
 
-    /// The screen got these bytes.
+    /// Notes the bytes that the screen got, in the log, if there is one.
     pub(crate) fn log<R: Clock + Wait>(&self, rt: &R, alloc: Global, bytes: &[u8]) {
         let mut log = self.log.lock(rt);
         let Some(log) = &mut *log else {
@@ -159,47 +160,49 @@ impl Link {
         }
     }
 
-    /// The same, since the screen takes no more.
+    /// Ends the connection, since the screen takes no more.
     pub(crate) fn darken(&self) {
         self.dark.store(true, Ordering::SeqCst);
         self.hang_up();
     }
 
-    /// Whether the screen takes no more.
+    /// Returns whether the screen takes no more.
     pub fn is_dark(&self) -> bool {
         self.dark.load(Ordering::SeqCst)
     }
 
-    /// The user leaves: what still fails is no fault, and both directions end once all was sent.
+    /// Notes that the user leaves: a later failure is no fault, and both directions end once all
+    /// was sent.
     pub(crate) fn leave(&self) {
         self.left.store(true, Ordering::SeqCst);
     }
 
-    /// The user leaves by an interrupt or a quit.
+    /// Notes that the user leaves by an interrupt or a quit.
     pub(crate) fn interrupt(&self) {
         self.interrupted.store(true, Ordering::SeqCst);
         self.leave();
     }
 
-    /// Whether the user has left by an interrupt or a quit.
+    /// Returns whether the user has left by an interrupt or a quit.
     pub fn is_interrupted(&self) -> bool {
         self.interrupted.load(Ordering::SeqCst)
     }
 
-    /// Whether the user has left.
+    /// Returns whether the user has left.
     pub fn is_left(&self) -> bool {
         self.left.load(Ordering::SeqCst)
     }
 
-    /// Nothing more is sent: the keys have ended, so a user who leaves has left by now, or nothing that is typed
-    /// has any effect any more.
+    /// Notes that nothing more is sent: the keys have ended, so a user who leaves has left before,
+    /// or nothing that is typed has any effect any more.
     pub(crate) fn end_sending(&self) {
         if self.is_left() {
             self.hang_up();
         }
     }
 
-    /// Whether what can't be sent is no fault: the user has left, or the screen takes no more.
+    /// Returns whether bytes that cannot be sent are no fault: the user has left, or the screen
+    /// takes no more.
     pub(crate) fn is_given_up(&self) -> bool {
         self.is_left() || self.is_dark()
     }
@@ -216,36 +219,36 @@ impl Link {
         self.dropped.fetch_add(keys, Ordering::SeqCst);
     }
 
-    /// How many keys were typed and never came to the session.
+    /// Returns the number of keys that were typed and never came to the session.
     pub fn dropped(&self) -> usize {
         self.dropped.load(Ordering::SeqCst)
     }
 
-    /// Reading failed: nothing more comes.
+    /// Notes that a read failed, so that nothing more comes.
     pub(crate) fn break_off(&self) {
         self.broken.store(true, Ordering::SeqCst);
         self.close();
     }
 
-    /// Whether reading from it failed.
+    /// Returns whether a read from the connection failed.
     pub fn is_broken(&self) -> bool {
         self.broken.load(Ordering::SeqCst)
     }
 
-    /// Nothing more comes from the other end, or it is no longer waited for.
+    /// Notes that nothing more comes from the other end, or that it is no longer waited for.
     pub fn close(&self) {
         self.closed.store(true, Ordering::SeqCst);
         self.bell.ring();
     }
 
-    /// Waits until nothing more comes, for so many milliseconds at most.
+    /// Waits until nothing more comes, for at most this number of milliseconds.
     pub fn wait_for_close<R: Clock + Wait>(&self, rt: &R, milliseconds: u16) {
         if !self.bell.wait_for_ring(milliseconds) {
             thread::sleep(rt, Duration::from_millis(u64::from(milliseconds)));
         }
     }
 
-    /// The descriptor that can be read once nothing more comes.
+    /// Returns the descriptor that can be read once nothing more comes.
     pub(crate) fn closing(&self) -> RawFd {
         self.bell.descriptor()
     }
@@ -262,24 +265,24 @@ impl Link {
         self.went.fetch_add(bytes, Ordering::SeqCst);
     }
 
-    /// How many bytes came.
+    /// Returns the number of bytes that came.
     pub(crate) fn came(&self) -> usize {
         self.came.load(Ordering::SeqCst)
     }
 
-    /// How many bytes went.
+    /// Returns the number of bytes that went.
     pub(crate) fn went(&self) -> usize {
         self.went.load(Ordering::SeqCst)
     }
 
-    /// Notes whether LINEMODE is on, and whether lines are edited here.
+    /// Notes whether LINEMODE is on, and whether lines are edited at the client.
     pub fn note_editing(&self, linemode: bool, here: bool) {
         self.linemode.store(linemode, Ordering::SeqCst);
         self.edits_here.store(here, Ordering::SeqCst);
     }
 
-    /// Notes whether a line that LINEMODE has edited here may go as a whole, once it ends: nothing of it goes before,
-    /// and it is edited by the standard characters.
+    /// Notes whether a line that LINEMODE has edited at the client may go as a whole, once it ends:
+    /// nothing of it goes before, and it is edited by the standard characters.
     pub fn note_whole(&self, goes_whole: bool) {
         self.goes_whole.store(goes_whole, Ordering::SeqCst);
     }
@@ -289,7 +292,7 @@ impl Link {
         self.echoes_there.store(there, Ordering::SeqCst);
     }
 
-    /// Notes how many bytes of a line are held here.
+    /// Notes the number of bytes of a line that the client holds.
     pub fn note_held(&self, bytes: usize) {
         self.held.store(bytes, Ordering::SeqCst);
     }
@@ -304,21 +307,22 @@ impl Link {
         self.has_line_mode.store(has_line_mode, Ordering::SeqCst);
     }
 
-    /// Keeps the half line of line mode.
+    /// Keeps the half-typed line of line mode.
     pub(crate) fn edit_by<R: Wait>(&self, rt: &R, half: HalfLine) {
         let mut kept = self.half.lock(rt);
         *kept = Some(half);
     }
 
-    /// Whether lines are edited at this end although LINEMODE is not on: the other end takes them whole (RFC 854,
-    /// "The Network Virtual Terminal"), as long as it does not suppress GO AHEAD.
+    /// Returns whether lines are edited at the client although LINEMODE is not on: the other end
+    /// takes them whole (RFC 854, "The Network Virtual Terminal"), as long as it does not suppress
+    /// GO AHEAD.
     pub(crate) fn is_line_mode(&self) -> bool {
         self.has_line_mode.load(Ordering::SeqCst)
             && !self.has_linemode()
             && !self.suppressed.load(Ordering::SeqCst)
     }
 
-    /// The lines that are held here until they end.
+    /// Returns the lines that are held at the client until they end.
     pub(crate) fn holding(&self) -> Holding {
         if self.is_line_mode() {
             return Holding::LineMode;
@@ -330,7 +334,7 @@ impl Link {
         Holding::Nothing
     }
 
-    /// Notes which half line is held.
+    /// Notes which half-typed line is held.
     pub(crate) fn note_half(&self, half: Holding) {
         self.has_half
             .store(half == Holding::LineMode, Ordering::SeqCst);
@@ -338,7 +342,7 @@ impl Link {
             .store(half == Holding::Edit, Ordering::SeqCst);
     }
 
-    /// Whether a half line is held, and such lines are held no more.
+    /// Returns whether a half-typed line is held, and such lines are held no more.
     pub(crate) fn is_half_due(&self) -> bool {
         match self.holding() {
             Holding::LineMode => self.has_edited_half.load(Ordering::SeqCst),
@@ -349,12 +353,12 @@ impl Link {
         }
     }
 
-    /// The half line that is edited at this end, if one is.
+    /// Returns the half-typed line that the client edits, if one is.
     pub(crate) fn half(&self) -> &Mutex<Option<HalfLine>> {
         &self.half
     }
 
-    /// Edits the half line by a key. If the line ended, `line` gets its bytes.
+    /// Edits the half-typed line by a key. If the line ended, `line` gets its bytes.
     pub(crate) fn edit_half<R: Wait>(
         &self,
         rt: &R,
@@ -368,7 +372,7 @@ impl Link {
         }
     }
 
-    /// How many bytes the half line has.
+    /// Returns the number of bytes of the half-typed line.
     pub(crate) fn count_half<R: Wait>(&self, rt: &R) -> usize {
         let half = self.half.lock(rt);
         match &*half {
@@ -377,7 +381,7 @@ impl Link {
         }
     }
 
-    /// Follows whether a line to the client itself is typed, below the half line.
+    /// Follows whether a line to the client itself is typed, below the half-typed line.
     pub(crate) fn follow_prompt<R: Wait>(&self, rt: &R, is_prompting: bool) {
         let mut half = self.half.lock(rt);
         if let Some(half) = &mut *half {
@@ -385,7 +389,7 @@ impl Link {
         }
     }
 
-    /// The window has this width from now on; 0 if that is not known.
+    /// Sets the window's width; 0 if that is not known.
     pub(crate) fn resize_half<R: Wait>(&self, rt: &R, width: u16) {
         let mut half = self.half.lock(rt);
         if let Some(half) = &mut *half {
@@ -398,12 +402,13 @@ impl Link {
         self.has_keys.store(has_keys, Ordering::SeqCst);
     }
 
-    /// Whether keys that were read wait to be taken.
+    /// Returns whether keys that were read wait to be taken.
     pub fn has_keys(&self) -> bool {
         self.has_keys.load(Ordering::SeqCst)
     }
 
-    /// Whether what comes is to wait, since the user has stopped the screen of a connection that stands.
+    /// Returns whether the bytes that come are to wait, since the user has stopped the screen of a
+    /// connection that stands.
     pub(crate) fn holds_screen<R: Wait>(&self, rt: &R) -> bool {
         if self.is_left() || self.is_closed() {
             return false;
@@ -415,9 +420,9 @@ impl Link {
         }
     }
 
-    /// Takes the half line off the screen, since these bytes are to be shown. Returns how many of them can be shown
-    /// at once: as long as the other end does not echo, a line feed goes to the left edge, as at a terminal whose
-    /// ONLCR is set (POSIX.1-2017, XBD 11.2.3).
+    /// Takes the half-typed line off the screen, since these bytes are to be shown. Returns how
+    /// many of them can be shown at once: as long as the other end does not echo, a line feed goes
+    /// to the left edge, as at a terminal whose ONLCR is set (POSIX.1-2017, XBD 11.2.3).
     pub(crate) fn take_half_off<R: Wait>(&self, rt: &R, bytes: &[u8]) -> usize
         ensures { result ≤ length bytes.now }
     {
@@ -432,7 +437,7 @@ impl Link {
         half.count_in_row(bytes)
     }
 
-    /// Puts the half line back, once these bytes were shown.
+    /// Puts the half-typed line back, once these bytes were shown.
     pub(crate) fn put_half_back<R: Wait>(&self, rt: &R, shown: &[u8]) {
         let mut half = self.half.lock(rt);
         if let Some(half) = &mut *half {
@@ -463,7 +468,7 @@ impl Link {
         self.linemode.load(Ordering::SeqCst)
     }
 
-    /// How many bytes of a line are held here.
+    /// Returns the number of bytes of a line that the client holds.
     pub fn held(&self) -> usize {
         self.held.load(Ordering::SeqCst)
     }

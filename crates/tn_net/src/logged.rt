@@ -8,8 +8,8 @@ use crate::write_log::WriteLog;
 use std::io;
 use tn_cores::streams::{Drain, Finish};
 
-/// A writer with a log of the bytes that it took, so that contracts see them though it tells nothing itself,
-/// as a socket does.
+/// A writer with a log of the bytes that it took, so that contracts see them though it reports
+/// nothing itself, as a socket does.
 #[derive(Drop)]
 pub struct Logged<W> {
     writer: W,
@@ -17,7 +17,7 @@ pub struct Logged<W> {
 }
 
 impl<W: Drop> Logged<W> {
-    /// Nothing was written yet.
+    /// Makes a log of a writer to which nothing was written yet.
     pub fn new(writer: W) -> Logged<W>
         ensures log { logged result.log ≡ [] }
         ensures writer { result.writer ≡ writer }
@@ -28,7 +28,7 @@ impl<W: Drop> Logged<W> {
         }
     }
 
-    /// The writer, and the log of what it took.
+    /// Returns the writer, and the log of the bytes that it took.
     pub fn into_parts(self) -> (W, WriteLog)
         ensures writer { result.0 ≡ self.writer }
         ensures log { result.1 ≡ self.log }

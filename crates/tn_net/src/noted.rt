@@ -12,7 +12,7 @@ use std::sync::Wait;
 use std::time::Clock;
 use tn_cores::streams::{Drain, Finish};
 
-/// What comes over a connection. The bytes are counted, and traced if that is wanted.
+/// The reading side of a connection. The bytes are counted, and traced if that is wanted.
 #[derive(Drop)]
 pub struct Noted<'a, H, S> {
     stream: S,
@@ -21,7 +21,7 @@ pub struct Noted<'a, H, S> {
 }
 
 impl<'a, H, S> Noted<'a, H, S> {
-    /// This direction of the connection.
+    /// Makes the reading side of this stream.
     pub fn new(stream: S, link: &'a Link, trace: &'a Trace<H>) -> Noted<'a, H, S>
         ensures { result.stream ≡ stream }
     {
@@ -46,7 +46,7 @@ impl<'a, H: Clock + Copy + Wait, S: Read> Read for Noted<'a, H, S> {
     }
 }
 
-/// What goes over a connection. The bytes are counted, and traced if that is wanted.
+/// The writing side of a connection. The bytes are counted, and traced if that is wanted.
 #[derive(Drop)]
 pub struct NotedWriter<'a, H, W> {
     writer: W,
@@ -55,7 +55,7 @@ pub struct NotedWriter<'a, H, W> {
 }
 
 impl<'a, H, W> NotedWriter<'a, H, W> {
-    /// The direction in which bytes go.
+    /// Makes the writing side of this writer.
     pub fn new(writer: W, link: &'a Link, trace: &'a Trace<H>) -> NotedWriter<'a, H, W>
         ensures { result.writer ≡ writer }
     {

@@ -1,4 +1,5 @@
-//! What a client sends goes out in a thread of its own, so that it reads on while the server does not.
+//! The writing side of a client, whose bytes go out in a thread of their own, so that the client
+//! reads on while the server does not.
 
 ghost use Rattle.std.specs.Prelude.{◌≡◌, IfOk, None, OnErr, OnOk, Some, false, IsFalse, option_map, []};
 ghost use Rattle.crossbeam_channel.specs.{Claims.{view, IsSeatAt}, Ends.sends_on};
@@ -23,16 +24,16 @@ use std::sync::{Arc, Wait};
 use std::time::{Clock, Duration};
 use tn_cores::streams::Finish;
 
-/// How many writes of a session wait at most, and their end. A piece of keys makes one write, and at most 66
-/// pieces are on their way once no more keys are read, so that keys alone never fill it.
+/// The most writes of a session that wait, with their end. A piece of keys makes one write, and at
+/// most 66 pieces are on their way once no more keys are read, so that only keys never fill it.
 const MAX_WRITES: usize = 256;
 
-/// With more writes or more bytes than these waiting, no more keys are read.
+/// The number of writes, and of bytes, beyond which no more keys are read while they wait.
 const WRITES_MARK: usize = 128;
 
 const BYTES_MARK: usize = 4_096;
 
-/// What waits to be sent.
+/// The bytes that wait to be sent.
 #[derive(Drop)]
 pub(crate) struct Waiting {
     writes: AtomicUsize,
@@ -62,7 +63,7 @@ impl Waiting {
     }
 }
 
-/// Both ends of a queue, and their passes.
+/// A new queue: both of its ends, and their passes.
 #[derive(Drop)]
 pub struct NewQueue {
     pub(crate) to: PieceSender,
@@ -73,7 +74,8 @@ pub struct NewQueue {
     sent: Sender<(), Global>,
 }
 
-/// What a session writes: it waits for the thread that sends it. `Q` is the queue, for contracts.
+/// The writer of a session: its bytes wait for the thread that sends them. `Q` is the queue, for
+/// contracts.
 #[derive(Drop)]
 pub struct Outgoing<H, Q: Queue> {
     rt: H,
@@ -100,7 +102,11 @@ pub struct Throttle<H> {
     sent: Receiver<(), Global>,
 }
 
-/// A queue that is new, and what lets keys be read as it empties.
+/// Makes a queue that is new, and the throttle that lets keys be read as it empties.
+///
+/// # Errors
+///
+/// - `AllocError`: there is no memory for the queue.
 pub fn new_queue<H: Copy>(rt: H, alloc: Global) -> Result<(NewQueue, Throttle<H>), AllocError>
     ensures { IfOk result (λ r. IsNew r.0) }
 {
@@ -131,7 +137,12 @@ pub fn new_queue<H: Copy>(rt: H, alloc: Global) -> Result<(NewQueue, Throttle<H>
 }
 
 impl NewQueue {
-    /// What a session writes to, and what sends that by this writer over this link.
+    /// Returns the writer of a session, and the sender that sends its bytes by this writer over
+    /// this link.
+    ///
+    /// # Errors
+    ///
+    /// - `AllocError`: one more handle of the waiting bytes cannot be made.
     pub fn sides<H: Copy, W, Q: Queue>(
         self,
         rt: H,
@@ -182,7 +193,7 @@ impl NewQueue {
 }
 
 impl<H: Copy + Wait, Q: Queue> Outgoing<H, Q> {
-    /// How many bytes wait to be sent.
+    /// Returns the number of bytes that wait to be sent.
     pub fn waiting(&self) -> usize {
         self.waiting.bytes()
     }
@@ -196,7 +207,7 @@ impl<H: Copy + Wait, Q: Queue> Outgoing<H, Q> {
         }
     }
 
-    // Puts this, where the other side is there to take it.
+    // Puts this piece, if the other side is there to take it.
     fn put(&mut self, piece: Piece) -> io::Result<()>
         requires open { IsFalse self.old.finished }
         ensures put { OnOk result (view self.new.pass ≡ put_more (view self.old.pass) piece) }
@@ -212,7 +223,8 @@ impl<H: Copy + Wait, Q: Queue> Outgoing<H, Q> {
         }
     }
 
-    /// Joins the pass of the one that took what was put here, so that their lists are compared.
+    /// Joins the pass of the side that took the pieces that were put by this one, so that their
+    /// lists are compared.
     pub fn settle(self, taker: PiecePass) -> PiecePass
         requires seat { IsSeatIn Q.table Q.key taker }
         ensures { IsSettled (view self.pass) (view taker) (view result) }
@@ -252,7 +264,7 @@ impl<H: Clock + Copy + Wait, Q: Queue> Finish for Outgoing<H, Q> {
 
 impl<H: Wait> Throttle<H> {
     // tools/progress: proctype ClientKeys
-    /// Waits as long as more waits than the marks, and somebody sends it.
+    /// Waits as long as more waits than the marks, and a thread sends it.
     pub fn wait(&self) {
         for _ in self.rt.forever() {
             if self.waiting.is_little() || self.sent.recv(&self.rt).is_err() {
@@ -263,8 +275,8 @@ impl<H: Wait> Throttle<H> {
 }
 
 impl<H: Clock + Wait> Throttle<H> {
-    /// Whether no keys are to be given: more waits than the marks, though so many milliseconds were waited
-    /// for some of it to be sent, and somebody sends it.
+    /// Returns whether no keys are to be given: more waits than the marks, though this number of
+    /// milliseconds were waited for some of it to be sent, and a thread sends it.
     pub(crate) fn holds(&self, milliseconds: u64) -> bool {
         if self.waiting.is_little() {
             return false;

@@ -7,8 +7,8 @@ ghost use Rattle.tn_net.specs.Mapping.{mapped, none_own, own_function, standard_
 use tn_codes::Func;
 use tn_discipline::{Chars, is_reserved};
 
-/// The special characters of the user's own terminal (POSIX.1-2017, XBD 11.1.9), each a byte, or none where
-/// it is disabled. Two may be the same byte.
+/// The special characters of the user's own terminal (POSIX.1-2017, XBD 11.1.9), each a byte, or
+/// none if it is disabled. Two may be the same byte.
 #[derive(Clone, Copy, PartialEq, Eq)]
 pub struct OwnCharacters {
     pub intr: Option<u8>,
@@ -20,7 +20,7 @@ pub struct OwnCharacters {
 }
 
 impl OwnCharacters {
-    /// No character is the user's own.
+    /// Makes characters none of which is the user's own.
     pub fn none() -> OwnCharacters
         ensures { result ≡ none_own }
     {
@@ -34,8 +34,8 @@ impl OwnCharacters {
         }
     }
 
-    /// What a session gets of a byte that is typed: of a character of the user's own the standard one of the
-    /// same function, and every other byte as it is.
+    /// Returns the byte that a session gets for a byte that is typed: for a character of the user's
+    /// own the standard one of the same function, and every other byte as it is.
     pub fn mapped(&self, byte: u8) -> u8
         ensures { result ≡ mapped self.now byte }
     {
@@ -45,7 +45,7 @@ impl OwnCharacters {
         standard_for(self.function(byte), byte)
     }
 
-    // The function of the first character that this byte is.
+    // Returns the function of the first character that this byte is.
     fn function(&self, byte: u8) -> Option<Func>
         ensures { result ≡ own_function self.now byte }
     {
@@ -77,7 +77,7 @@ fn is_set_to(character: Option<u8>, byte: u8) -> bool
     character == Some(byte)
 }
 
-// The standard character of this function, or the byte itself where there is none.
+// Returns the standard character of this function, or the byte itself if there is none.
 fn standard_for(function: Option<Func>, byte: u8) -> u8
     ensures { result ≡ standard_for function byte }
 {

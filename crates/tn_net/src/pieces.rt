@@ -5,7 +5,7 @@ pub use tn_cores::queue::{Hand, InTurn};
 pub(crate) use tn_cores::queue::{CutTaker, JoinHands, Puts, Takes};
 use tn_cores::queue::{QueuePass, QueueReceiver, QueueSender};
 
-/// What is put: some bytes, or the end.
+/// A piece that is put: some bytes, or the end.
 pub type Piece = Option<Vec<u8>>;
 
 pub type PiecePass = QueuePass<Piece>;

@@ -12,7 +12,7 @@ use std::io::{ErrorKind, Read};
 use std::sync::Wait;
 use std::{io, mem};
 
-/// How many bytes are read at once.
+/// The number of bytes that are read at once.
 const PIECE_BYTES: usize = 4_096;
 
 /// The keys that the bytes of a reader are. What their user asks the client itself for is done at once; once
@@ -29,7 +29,7 @@ pub struct PlainKeys<'a, H, K> {
 }
 
 impl<'a, H: ClientFiles + Copy + Wait, K> PlainKeys<'a, H, K> {
-    /// The keys that come from there.
+    /// Makes the keys of this source.
     pub fn new(
         rt: H,
         alloc: Global,
@@ -53,7 +53,7 @@ impl<'a, H: ClientFiles + Copy + Wait, K> PlainKeys<'a, H, K> {
         }
     }
 
-    /// Whether a line to the client itself is typed.
+    /// Returns whether a line to the client itself is typed.
     pub(crate) fn is_prompting(&self) -> bool {
         self.escaping.prompt.is_open
     }

@@ -29,13 +29,13 @@ const QUIT: u8 = 28;
 
 const EOF: u8 = 4;
 
-/// How many bytes are read at once.
+/// The number of bytes that are read at once.
 const PIECE_BYTES: usize = 4_096;
 
-/// How lines are edited and shown.
+/// The settings by which lines are edited and shown.
 #[derive(Drop)]
 pub struct LineSettings {
-    /// How many bytes a line has at most.
+    /// The most bytes of a line.
     pub limit: Limit,
     pub editing: EditorSettings,
     /// The screen of the terminal, and each new size of its window.
@@ -52,7 +52,7 @@ pub struct PlainLines<'a, H, K> {
     keys: PlainKeys<'a, H, K>,
     link: &'a Link,
     sizes: Sizes,
-    /// Keys that were read, of which so many were taken.
+    /// The keys that were read, and the number of them that were taken.
     typed: Vec<u8>,
     taken: usize,
     /// The line that ended last.
@@ -63,7 +63,7 @@ pub struct PlainLines<'a, H, K> {
 }
 
 impl<'a, H: ClientFiles + Copy + Wait, K: Read + Drop> PlainLines<'a, H, K> {
-    /// The lines that these keys are, for this connection.
+    /// Makes the lines that these keys are, for this connection.
     ///
     /// # Errors
     ///
@@ -145,7 +145,7 @@ impl<'a, H: ClientFiles + Copy + Wait, K: Read + Drop> PlainLines<'a, H, K> {
         Ok(true)
     }
 
-    // Nothing more goes to the service.
+    // Notes that nothing more goes to the service.
     fn end(&mut self) {
         self.has_ended = true;
         self.link.end_writing();

@@ -1,4 +1,4 @@
-//! What of a client's bytes is typed.
+//! The typed part of a client's bytes.
 
 ghost use Rattle.std.specs.Prelude.{◌≡◌, []};
 ghost use Rattle.tn_nvt.specs.Feeding.{LeadsTo};
@@ -8,15 +8,15 @@ use std::alloc::Global;
 use tn_codes::Command;
 use tn_nvt::{Decoder, Item, Params, Refused, Sink};
 
-/// Tells of each piece of what a client sends whether something of it reaches the terminal: data, and the
-/// commands that stand for keys there. Options, a size, NOP and AYT do not.
+/// A filter that reports of each piece of a client's stream whether something of it reaches the
+/// terminal: data, and the commands that stand for keys there. Options, a size, NOP and AYT do not.
 #[derive(Drop)]
 pub(crate) struct TypedPieces {
     decoder: Decoder,
 }
 
 impl TypedPieces {
-    /// Nothing came yet.
+    /// Makes a filter that has got nothing yet.
     pub(crate) fn new(alloc: Global) -> TypedPieces
         ensures { LeadsTo [] [] result.decoder }
     {
@@ -25,8 +25,8 @@ impl TypedPieces {
         }
     }
 
-    /// Whether something of the next piece is typed. Once memory ran out for the parameters of a
-    /// subnegotiation, all is.
+    /// Returns whether something of the next piece is typed. Once memory ran out for the parameters
+    /// of a subnegotiation, all is.
     pub(crate) fn has_typed(&mut self, piece: &[u8]) -> bool
         ensures { TellsOfPiece self.old.decoder piece.now result self.new.decoder }
     {
@@ -78,7 +78,7 @@ fn is_typed(item: &Item) -> bool
     }
 }
 
-// Whether a command stands for a key at the terminal.
+// Returns whether a command stands for a key at the terminal.
 fn is_key(command: Command) -> bool
     ensures { result ≡ stands_for_key command }
 {

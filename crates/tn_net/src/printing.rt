@@ -1,4 +1,7 @@
-//! Prints what a Telnet stream is read as, one line for each item (RFC 854, 855, 1073, 1184).
+//! Prints the items of a Telnet stream, one line for each (RFC 854, 855, 1073, 1184).
+//!
+//! Begin with `Lines`, which takes the items of a `Decoder` of `tn_nvt`, and `Prefix`, the text
+//! before each line.
 //!
 //! ```
 //! let mut lines = Lines::new(alloc, Prefix::Empty);
@@ -8,8 +11,8 @@
 //! lines.end_data()?; // and now data "l"
 //! ```
 //!
-//! Data are joined wherever the stream was cut, and a line has at most 64 bytes of them. It reads nothing
-//! itself: what is less than an item, at the end of a stream, is not printed.
+//! Data are joined wherever the stream was cut, and a line has at most 64 bytes of them. The crate
+//! reads nothing itself: bytes at the end of a stream that are less than an item are not printed.
 
 pub use printer::{Lines, Prefix};
 

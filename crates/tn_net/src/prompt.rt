@@ -9,7 +9,7 @@ use crate::returns::ReturnKey;
 use arrayvec::ArrayVec;
 use std::marker::Model;
 
-/// How many bytes the line has at most.
+/// The most bytes of the line.
 const MOST: usize = 255;
 
 /// The bytes of the line.
@@ -27,7 +27,7 @@ impl Model for PromptLine {
 }
 
 impl PromptLine {
-    /// An empty line.
+    /// Makes an empty line.
     pub(crate) fn new() -> PromptLine
         ensures { result ≡ [] }
     {
@@ -36,7 +36,7 @@ impl PromptLine {
         }
     }
 
-    /// The bytes, in the order in which they were typed.
+    /// Returns the bytes, in the order in which they were typed.
     pub fn as_slice(&self) -> &[u8]
         ensures { result.now ≡ self.now }
     {
@@ -66,7 +66,8 @@ impl PromptLine {
     }
 }
 
-/// How much has come of the bytes that a key such as Up sends (ECMA-48, 5.4; DEC STD 070 of SS3).
+/// The part that has come of the bytes that a key such as Up sends (ECMA-48, 5.4; DEC STD 070 of
+/// SS3).
 #[derive(Clone, Copy, Debug, PartialEq, Eq)]
 pub enum Sequence {
     /// Nothing, or all.
@@ -79,12 +80,12 @@ pub enum Sequence {
     Letter,
 }
 
-/// What a byte does to the line.
+/// The effect of a byte on the line.
 #[derive(Clone, Copy, Debug, PartialEq, Eq)]
 pub enum Edit {
-    /// It ends it.
+    /// The byte ends the line.
     Enter,
-    /// It gives it up.
+    /// The byte gives the line up.
     Leave,
     Erase,
     Kill,
@@ -96,19 +97,19 @@ pub enum Edit {
     Refuse,
 }
 
-/// Whether a line is typed to the client itself, and what of it was.
+/// Whether a line is typed to the client itself, and the bytes of it so far.
 #[derive(Drop)]
 pub struct Prompt {
     pub is_open: bool,
     /// The line; of one that ended, what it was.
     pub line: PromptLine,
     pub sequence: Sequence,
-    /// What RETURN is to send by the last line that asked for that.
+    /// The bytes that RETURN is to send by the last line that asked for that.
     pub returns: Option<ReturnKey>,
 }
 
 impl Prompt {
-    /// No line is typed.
+    /// Makes the state in which no line is typed.
     pub(crate) fn new() -> Prompt
         ensures { result ≡ closed }
     {
@@ -120,7 +121,7 @@ impl Prompt {
         }
     }
 
-    /// A line begins.
+    /// Begins a line.
     pub(crate) fn open(&mut self)
         ensures { self.new ≡ opened self.old }
     {
@@ -129,7 +130,7 @@ impl Prompt {
         self.sequence = Sequence::Nothing;
     }
 
-    /// The escape character came again. It ends an empty line, and no other.
+    /// Takes the escape character once more. It ends an empty line, and no other.
     pub(crate) fn take_escape(&mut self)
         ensures { self.new ≡ after_escape self.old }
     {
@@ -137,7 +138,7 @@ impl Prompt {
         self.sequence = Sequence::Nothing;
     }
 
-    /// This is done to the line by this byte.
+    /// Applies this edit, by this byte, to the line.
     pub(crate) fn take(&mut self, edit: Edit, byte: u8)
         ensures { self.new ≡ after_edit edit byte self.old }
     {
@@ -164,13 +165,14 @@ impl Prompt {
         }
     }
 
-    /// Whether the line has room for one byte more.
+    /// Returns whether the line has room for one byte more.
     pub(crate) fn has_room(&self) -> bool {
         !self.line.bytes.is_full()
     }
 }
 
-/// What a byte does to a line, at a terminal with these special characters, after so much of a sequence.
+/// Returns the effect of a byte on a line, at a terminal with these special characters, after this
+/// part of a sequence.
 pub(crate) fn edit_of(own: &OwnCharacters, sequence: Sequence, byte: u8) -> Edit
     ensures { result ≡ edit_of own.now sequence byte }
 {
@@ -193,7 +195,7 @@ pub(crate) fn edit_of(own: &OwnCharacters, sequence: Sequence, byte: u8) -> Edit
     }
 }
 
-// The same of a byte that is part of no sequence: both RETURN and a line feed end a line.
+// Returns the effect of a byte that is part of no sequence: both RETURN and a line feed end a line.
 fn plain_edit(own: &OwnCharacters, byte: u8) -> Edit
     ensures { result ≡ plain_edit own.now byte }
 {
@@ -204,7 +206,7 @@ fn plain_edit(own: &OwnCharacters, byte: u8) -> Edit
     }
 }
 
-// The same of a standard character: BS erases as DEL does.
+// Returns the effect of a standard character: BS erases as DEL does.
 fn edit_by(character: u8) -> Edit
     ensures { result ≡ edit_by character }
 {

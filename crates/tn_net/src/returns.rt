@@ -1,9 +1,9 @@
-//! What the key RETURN sends.
+//! The bytes that the key RETURN sends.
 
 ghost use Rattle.std.specs.{Prelude.◌≡◌, Str.bytes_eq};
 ghost use Rattle.tn_net.specs.Prompting.{return_in};
 
-/// What the key RETURN sends if keys go one at a time (RFC 1123, section 3.3.1).
+/// The bytes that the key RETURN sends if keys go one at a time (RFC 1123, section 3.3.1).
 #[derive(Clone, Copy, Debug, PartialEq, Eq)]
 pub enum ReturnKey {
     CrNul,
@@ -12,7 +12,7 @@ pub enum ReturnKey {
 }
 
 impl ReturnKey {
-    /// What a line to the client itself asks for.
+    /// Returns what a line to the client itself asks RETURN to send.
     pub(crate) fn asked(line: &[u8]) -> Option<ReturnKey>
         ensures { result ≡ return_in line.now }
     {
@@ -28,7 +28,7 @@ impl ReturnKey {
         None
     }
 
-    /// What it is, as a user is told.
+    /// Returns the name that a user sees.
     pub(crate) fn name(self) -> &'static str {
         match self {
             ReturnKey::CrNul => "CR NUL",
@@ -38,7 +38,7 @@ impl ReturnKey {
     }
 }
 
-/// Whether a line is this.
+/// Returns whether a line is this word.
 pub(crate) fn is(line: &[u8], word: &[u8]) -> bool
     ensures { result ≡ bytes_eq line.now word.now }
 {

@@ -18,7 +18,7 @@ const LOOK: u64 = 20;
 pub struct Screen<H, S> {
     pub rt: H,
     pub alloc: Global,
-    /// What is written to.
+    /// The writer of the screen.
     pub writer: S,
     /// The connection.
     pub link: Arc<Link, Global>,
@@ -27,7 +27,7 @@ pub struct Screen<H, S> {
     pub is_session: bool,
 }
 
-// The bytes that were written, of these.
+// Returns the bytes that were written, of these.
 fn shown_of<'a>(wrote: &io::Result<usize>, buf: &'a [u8]) -> &'a [u8] {
     match wrote {
         Ok(count) => buf.get(..*count).unwrap_or(buf),

@@ -16,7 +16,7 @@ pub(crate) struct ScreenLog {
 }
 
 impl ScreenLog {
-    /// A log into this file, of which a line begins.
+    /// Makes a log into this file, at the beginning of a line.
     pub(crate) fn new(file: File) -> ScreenLog {
         ScreenLog { file, begins: true }
     }
@@ -38,7 +38,7 @@ impl ScreenLog {
         }
     }
 
-    // The bytes, with the time before each line that begins with them.
+    // Returns the bytes, with the time before each line that begins with them.
     fn timed<C: Clock>(
         &mut self,
         clock: &C,

@@ -1,4 +1,4 @@
-//! What waits is sent, by a thread of its own.
+//! Sends the bytes that wait, in a thread of its own.
 
 ghost use Rattle.std.specs.Prelude.{◌≡◌, ◌≢◌, ℕ, List, None, IfOk, IfSome, OnOk, OnErr, true};
 ghost use Rattle.std.specs.Io.KnownBytes.{Appends};
@@ -34,10 +34,10 @@ pub struct Sending<H, W, Q: Queue> {
     ghost takes: { (view pass).taken ≢ None },
 }
 
-/// What became of all that was put.
+/// The fate of all that was put.
 #[derive(Clone, Copy, PartialEq, Eq)]
 pub enum Sent {
-    /// It was sent, up to its end.
+    /// All was sent, up to its end.
     Whole,
     /// The user has left, or the screen takes no more: what came after a write that failed was discarded.
     Left,
@@ -47,9 +47,12 @@ pub enum Sent {
 
 impl<H: Copy + Wait, W: Drop + Finish, Q: Queue> Sending<H, W, Q> {
     // tools/progress: proctype Sending
-    /// Sends all up to the end, and finishes the writer. Where a write fails the link is ended, since the
-    /// other end hears no more. Once the user has left, what can't be sent in time is discarded, and the link
-    /// is ended.
+    /// Sends all up to the end, and finishes the writer. Once the user has left, bytes that cannot
+    /// be sent in time are discarded, and the link is ended.
+    ///
+    /// # Errors
+    ///
+    /// - The error of a write that failed; the link is ended, since the other end gets no more.
     pub fn run(&mut self) -> io::Result<Sent>
         ensures sent { WritesTaken (view self.old.pass) (view self.new.pass)
             (W.contents self.old.writer) (W.contents self.new.writer) }
@@ -87,7 +90,7 @@ impl<H: Copy + Wait, W: Drop + Finish, Q: Queue> Sending<H, W, Q> {
         Ok(Sent::Cut)
     }
 
-    /// The writer, and the pass in which contracts see all that was taken.
+    /// Returns the writer, and the pass in which contracts see all that was taken.
     pub fn into_parts(self) -> (W, PiecePass)
         ensures writer { result.0 ≡ self.writer }
         ensures pass { result.1 ≡ self.pass }
@@ -97,7 +100,7 @@ impl<H: Copy + Wait, W: Drop + Finish, Q: Queue> Sending<H, W, Q> {
         (writer, pass)
     }
 
-    // Waits for what comes next. `None` where the other side is gone.
+    // Waits for the next piece. It returns `None` if the other side is gone.
     fn next(&mut self) -> Option<Piece>
         ensures writer { self.new.writer ≡ self.old.writer }
         ensures took { IfSome result (λ piece.
@@ -127,15 +130,15 @@ impl<H: Copy + Wait, W: Drop + Finish, Q: Queue> Sending<H, W, Q> {
         }
     }
 
-    // One write does not wait any more.
+    // Notes that one write does not wait any more.
     fn note(&self) {
         self.waiting.remove_write();
         let _ = self.sent.try_send(&self.rt, ());
     }
 }
 
-// Writes these bytes, or the first of them where a write fails. A write that takes none has failed. Those
-// that were written do not wait any more.
+// Writes these bytes, or the first of them if a write fails. A write that takes none has failed.
+// Those that were written do not wait any more.
 fn send_whole<W: Drain>(
     writer: &mut W,
     bytes: &[u8],
@@ -165,7 +168,7 @@ fn send_whole<W: Drain>(
     Err(io::Error::from(ErrorKind::WriteZero))
 }
 
-// Whether a write is to be made again: a signal came, or it had to wait, and there is time.
+// Returns whether a write is to be made again: a signal came, or it had to wait, and there is time.
 fn is_to_be_made_again(error: &io::Error, link: &Link) -> bool {
     is_interrupted(error) || (error.kind() == ErrorKind::WouldBlock && !link.is_late())
 }

@@ -1,4 +1,4 @@
-//! The sizes of the window, as whoever set the terminal tells them.
+//! The sizes of the window, as the launcher, which set the terminal, sends them.
 
 ghost use Rattle.std.specs.{Prelude.{◌≡◌, IfOk, IfSome, List, Some, ℕ}, Io.KnownBytes.Consumes};
 ghost use Rattle.tn_net.specs.Sizes.{IsTold, number_of, with_digit};
@@ -11,31 +11,31 @@ use std::io::{ErrorKind, Read};
 use std::os::fd::AsRawFd;
 use tn_cores::streams::WindowSize;
 
-/// How many bytes a line has.
+/// The number of bytes of a line.
 const LINE: usize = 12;
 
-/// How many bytes are read at once: 21 lines, so that no line is cut.
+/// The number of bytes that are read at once: 21 lines, so that no line is cut.
 const LINES: usize = 252;
 
 /// The descriptor that `poll` passes over (POSIX).
 const NO_DESCRIPTOR: i32 = -1;
 
-/// A pipe that tells each new size: width and height, five characters each, a space between them and a line
-/// feed after them. If there is no pipe, no sizes come.
+/// A pipe that brings each new size: width and height, five characters each, a space between them
+/// and a line feed after them. If there is no pipe, no sizes come.
 #[derive(Drop)]
 pub struct Sizes {
     pipe: Option<File>,
 }
 
 impl Sizes {
-    /// The sizes that this pipe tells.
+    /// Makes the sizes that this pipe brings.
     pub fn new(pipe: Option<File>) -> Sizes
         ensures { result.pipe ≡ pipe }
     {
         Sizes { pipe }
     }
 
-    /// The descriptor to wait at.
+    /// Returns the descriptor to wait at.
     pub(crate) fn descriptor(&self) -> i32 {
         match &self.pipe {
             Some(pipe) => pipe.as_raw_fd(),
@@ -43,7 +43,7 @@ impl Sizes {
         }
     }
 
-    /// The last of the sizes that were told since the last look, if there is one.
+    /// Returns the last of the sizes that came since the last look, if there is one.
     pub(crate) fn look(&mut self) -> Option<WindowSize> {
         let mut waited = [pollfd {
             fd: self.descriptor(),
@@ -56,7 +56,8 @@ impl Sizes {
         self.read()
     }
 
-    /// The last of the sizes that were told since the last look, which is waited for. A pipe that has ended is looked at no more.
+    /// Returns the last of the sizes that came since the last look, which is waited for. A pipe
+    /// that has ended is looked at no more.
     pub(crate) fn read(&mut self) -> Option<WindowSize> {
         match last_told(self.pipe.as_mut()?) {
             Ok(size) => size,
@@ -68,7 +69,7 @@ impl Sizes {
     }
 }
 
-// The size in the last line that this pipe gives, if that is one.
+// Returns the size in the last line that this pipe gives, if that is one.
 fn last_told<P: Read>(pipe: &mut P) -> io::Result<Option<WindowSize>>
     ensures { IfOk result (λ told. IfSome told (λ size. (lines : List ℕ)
         × Consumes (P.remaining pipe.old) (P.remaining pipe.new) lines × IsTold size lines)) }
@@ -81,7 +82,7 @@ fn last_told<P: Read>(pipe: &mut P) -> io::Result<Option<WindowSize>>
     Ok(size_of(&lines[..count]))
 }
 
-// The size in the last of these lines.
+// Returns the size in the last of these lines.
 fn size_of(lines: &[u8]) -> Option<WindowSize>
     ensures { IfSome result (λ size. IsTold size lines.now) }
 {
@@ -92,7 +93,7 @@ fn size_of(lines: &[u8]) -> Option<WindowSize>
     Some(WindowSize { width, height })
 }
 
-// The number that these characters are: digits, and spaces before or after them.
+// Returns the number that these characters are: digits, and spaces before or after them.
 fn read_number(characters: &[u8]) -> Option<u16>
     ensures { IfSome result (λ number. number_of characters.now ≡ Some number) }
 {

@@ -6,35 +6,36 @@ use crate::escaping::{Echo, Next};
 use std::fs::File;
 use std::io::Write;
 
-/// What stands before a command to the client itself.
+/// The text before a command to the client itself.
 const PROMPT: &[u8] = b"\r\ntn> ";
 
-/// What takes one byte of a line from the screen.
+/// The bytes that take one byte of a line from the screen.
 const ERASED: &[u8] = b"\x08 \x08";
 
 const BELL: &[u8] = b"\x07";
 
-/// The line that asks whoever set the terminal to stop the program: SUB and a line feed.
+/// The line that asks the launcher, which set the terminal, to stop the program: SUB and a line
+/// feed.
 const STOPS: &[u8] = b"\x1a\n";
 
-/// The lines that say that the user leaves, and that the program is to be started again: CAN or EM, and a
-/// line feed.
+/// The lines to the launcher that the user leaves, and that the program is to be started again: CAN
+/// or EM, and a line feed.
 const LEAVES: &[u8] = b"\x18\n";
 
 const RETURNS: &[u8] = b"\x19\n";
 
-/// The terminal itself, whose standard output may be a file. Where there is none, nothing is shown. A line
-/// that can't be written is dropped.
+/// The terminal itself, whose standard output may be a file. If there is none, nothing is shown. A
+/// line that cannot be written is dropped.
 #[derive(Drop)]
 pub struct Terminal {
-    /// What is shown at it.
+    /// The file that shows lines at the terminal.
     pub screen: Option<File>,
-    /// Who set it, if somebody waits for what is asked of him.
+    /// The pipe to the launcher, which set the terminal, if it waits for requests.
     pub launcher: Option<File>,
 }
 
 impl Terminal {
-    /// The terminal with this screen, which this launcher set.
+    /// Makes the terminal with this screen, which this launcher set.
     pub fn new(screen: Option<File>, launcher: Option<File>) -> Terminal
         ensures screen { result.screen ≡ screen }
         ensures launcher { result.launcher ≡ launcher }
@@ -65,8 +66,8 @@ impl Terminal {
         }
     }
 
-    /// Says what becomes of the user once the connection is closed. False if the user wants to connect again,
-    /// and nobody can do that.
+    /// Sends the launcher what becomes of the user once the connection is closed. It returns false
+    /// if the user wants to connect again, and there is no launcher for that.
     pub(crate) fn leave(&mut self, next: Next) -> bool {
         let line = match next {
             Next::Leaves => LEAVES,
@@ -78,7 +79,7 @@ impl Terminal {
         }
     }
 
-    /// Has the program stopped. False where nobody can do that.
+    /// Has the program stopped. It returns false if there is no launcher for that.
     pub(crate) fn stop(&mut self) -> bool {
         match &mut self.launcher {
             Some(launcher) => launcher.write_all(STOPS).is_ok(),

@@ -10,7 +10,7 @@ use std::io::Write;
 use std::sync::{Arc, Mutex, Wait};
 use std::time::{Clock, Duration, Instant};
 
-/// Which way bytes pass.
+/// The direction in which bytes pass.
 #[derive(Clone, Copy)]
 pub(crate) enum Direction {
     Came,
@@ -41,7 +41,7 @@ impl<W: Write> Sides<W> {
     }
 }
 
-// The same without Telnet, whose bytes are data.
+// The sides of a connection without Telnet, whose bytes are data.
 #[derive(Drop)]
 struct PlainSides {
     alloc: Global,
@@ -64,8 +64,8 @@ impl PlainSides {
     }
 }
 
-/// Notes what passes, if a trace is wanted, and when: what is read or written at once has one time. Where
-/// there is no clock, each time is that of the beginning.
+/// A trace, which notes what passes, if it is wanted, and when: what is read or written at once has
+/// one time. If there is no clock, each time is that of the beginning.
 #[derive(Drop)]
 pub struct Trace<H> {
     rt: H,
@@ -75,7 +75,11 @@ pub struct Trace<H> {
 }
 
 impl<H: Clock + Copy + Wait> Trace<H> {
-    /// A trace into this file, or none.
+    /// Makes a trace into this file, or none.
+    ///
+    /// # Errors
+    ///
+    /// - `AllocError`: there is no memory for the trace.
     pub fn new(rt: H, alloc: Global, file: Option<File>) -> Result<Trace<H>, AllocError> {
         let begin = Instant::now(&rt).ok();
         let Some(file) = file else {
@@ -102,7 +106,11 @@ impl<H: Clock + Copy + Wait> Trace<H> {
         })
     }
 
-    /// A trace of what passes without Telnet, into this file, or none.
+    /// Makes a trace of a connection without Telnet, into this file, or none.
+    ///
+    /// # Errors
+    ///
+    /// - `AllocError`: there is no memory for the trace.
     pub fn without_telnet(
         rt: H,
         alloc: Global,
@@ -122,7 +130,7 @@ impl<H: Clock + Copy + Wait> Trace<H> {
         Ok(trace)
     }
 
-    /// The same trace, for one more part of the connection.
+    /// Returns the trace once more, for one more part of the connection.
     pub fn try_clone(&self) -> Result<Trace<H>, AllocError> {
         let sides = match &self.sides {
             Some(sides) => Some(Arc::try_clone(sides)?),
@@ -140,7 +148,7 @@ impl<H: Clock + Copy + Wait> Trace<H> {
         })
     }
 
-    // How long after the beginning it is.
+    // Returns the time since the beginning.
     fn time(&self) -> Duration {
         match self.begin.map(|begin| begin.elapsed(&self.rt)) {
             Some(Ok(time)) => time,
@@ -170,7 +178,7 @@ impl<H: Clock + Copy + Wait> Trace<H> {
         }
     }
 
-    /// Whether all that passed was written.
+    /// Returns whether all that passed was written.
     pub fn is_whole(&self) -> bool {
         match &self.sides {
             Some(sides) => !sides.lock(&self.rt).failed,

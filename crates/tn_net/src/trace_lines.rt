@@ -34,7 +34,7 @@ impl Side {
     }
 }
 
-/// The lines of a piece of what passes without Telnet: all of its bytes are data.
+/// Returns the lines of a piece of a connection without Telnet: all of its bytes are data.
 pub(crate) fn data_lines(lines: &mut Lines, piece: &[u8]) -> Result<Vec<u8>, AllocError> {
     for byte in piece {
         if lines.item(Item::Byte(*byte)).is_err() {

@@ -14,14 +14,14 @@ pub enum WriteLog {
 }
 
 impl WriteLog {
-    /// Nothing yet.
+    /// Makes a log of no byte.
     pub fn new() -> WriteLog
         ensures { logged result ≡ [] }
     {
         WriteLog::Empty
     }
 
-    // The same, and this byte after it.
+    // Adds this byte to the log.
     fn then(self, byte: u8) -> WriteLog
         ensures { logged result ≡ logged self ++ (byte ∷ []) }
     {
@@ -29,7 +29,7 @@ impl WriteLog {
         WriteLog::More(before, byte)
     }
 
-    /// The same, and these bytes after it.
+    /// Adds these bytes to the log, one after another.
     pub(crate) fn then_all(self, bytes: &[u8]) -> WriteLog
         ensures { logged result ≡ logged self ++ bytes.now }
     {

@@ -3,7 +3,7 @@ use Rattle.std.proofs.Common.{◌≡◌, ℕ, ◌-◌, ◌+◌, ◌≤◌, All, 
 use Rattle.std.proofs.{Common.{length-take-le, take-append-drop, drop-drop}, lemmas.List.take_all, Math.Seq.take-add}
 use Rattle.tn_nvt.specs.Sinks.{IsPlain, IsRun}
 
--- what is left at an index
+-- the rest at an index
 abbrev pub rest_of : List ℕ → ℕ → List ℕ
 rest_of xs i = take (length xs - i) (drop i xs)
 
@@ -41,7 +41,7 @@ pub one_front : (xs : List ℕ) → 0 < length xs → take 1 xs ≡ get_or xs 0 
 one_front [] some = absurd (none_below some)
 one_front (x ∷ xs) some = refl
 
--- and the others
+-- a list with something in it is its first byte and the others
 pub first_and : (xs : List ℕ) → 0 < length xs → xs ≡ get_or xs 0 0 ∷ drop 1 xs
 first_and [] some = absurd (none_below some)
 first_and (x ∷ xs) some = refl

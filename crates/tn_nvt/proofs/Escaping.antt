@@ -33,7 +33,7 @@ then_third (x ∷ y ∷ []) first middle next items more f g h = absurd (two_not
 then_third (x ∷ y ∷ z ∷ xs) first middle next items more f g h =
     StepAdvances-append Outside middle next (x ∷ y ∷ []) (z ∷ []) [] items (StepAdvances-append Outside first middle (x ∷ []) (y ∷ []) [] [] f g) h
 
--- what is kept of a subnegotiation, and the IAC after it
+-- the bytes that are kept of a subnegotiation, and the IAC after them
 pub kept_then_iac : (old new : Gathered) (xs : List ℕ) (n : ℕ) → n < length xs → KeepsFront old xs n new
     → StepAdvances (Inside old) (take (n + 1) xs) [] (InsideIac new)
 kept_then_iac old new xs n lt k =

@@ -1,4 +1,4 @@
--- From places to what the decoder's contract says of standings.
+-- From places to the standings that the decoder's contract names.
 use Rattle.std.proofs.Common.{◌≡◌, ◌≢◌, ℕ, ◌<◌, inl, inr, List, [], ◌∷◌, ◌++◌, length, get_or, take, drop, ◌+◌, refl, sym, ◌∙◌, ap, arith, append_assoc, lit<}
 use Rattle.std.proofs.lemmas.{List.{append-nil, take_more, take-append-drop}, Grind.flat_map-append}
 use Rattle.tn_codes.specs.{Codes.verb_code, declared.codes.Verb.Verb}
@@ -42,7 +42,7 @@ verb_no_sb verb.DontIt e = omega arith
 ends : (bytes : List ℕ) → 255 ∷ 250 ∷ doubled_bytes bytes ≡ 255 ∷ 250 ∷ doubled_bytes bytes ++ []
 ends bytes = ap (λ x. 255 ∷ 250 ∷ x) (sym (append-nil (doubled_bytes bytes)))
 
--- what is known of the rest is that the place stands there
+-- the known part of the rest is that the place stands there
 pub known : (place : Progress) (rest : List ℕ) → PlaceHasRest place rest → HasRest (state_of_place place) rest
 known Outside rest h = (h, λ more e. cc)
 known AfterCr rest h = (h, λ more e. cc)
@@ -56,7 +56,7 @@ known (InsideIac (Kept option params)) rest h = (omega (arith, h.1.1), h.2 ∙ a
 known (InsideIac Overlong) rest h = h
 known Failed rest h = absurd h
 
--- and the other way round
+-- a place whose state has this rest has it too
 pub stood : (place : Progress) (rest : List ℕ) → HasRest (state_of_place place) rest → PlaceHasRest place rest
 stood Outside rest h = h.0
 stood AfterCr rest h = h.0
@@ -174,6 +174,6 @@ still next (given.Cmd command) old new outside same = ap (progress next) (same (
 still next (given.Neg verb option) old new outside same = ap (progress next) (same (λ e. cc))
 still next given.Sub old new outside same = rw (outside refl) refl
 
--- the same place leaves the same known
+-- one place leads to one state
 pub same_state : (here stood : Place) (body : Body) → here ≡ stood → state_of_place (progress here body) ≡ state_of_place (progress stood body)
 same_state here stood body is = ap (λ place. state_of_place (progress place body)) is

@@ -1,4 +1,4 @@
--- What plain bytes complete.
+-- The items that plain bytes complete.
 use Rattle.std.proofs.{Common.{◌≢◌, ℕ, ◌<◌, List, [], ◌∷◌, All, zero, suc, length, take, get_or, map, arith}, lemmas.List.Elements.{All-head, All-tail}}
 use Rattle.tn_nvt.specs.{declared.items.Item.TheVariants.Byte, Machine.{Outside, AfterCr, StepAdvances}, Sinks.IsPlain}
 use Rattle.tn_nvt.proofs.Steps.{StepAdvances-none, StepAdvances-append, plain, cr_plain}
@@ -18,7 +18,7 @@ run_after_cr b bs h k p =
 none_below : 0 < 0 → ⊥
 none_below h = omega arith
 
--- the same of a prefix of the rest
+-- the front of a prefix of the rest
 pub front_after_cr : (rest : List ℕ) (n : ℕ) → 0 < n → 0 < length rest → get_or rest 0 0 ≢ 10 → get_or rest 0 0 ≢ 0 → All IsPlain (take n rest)
     → StepAdvances AfterCr (take n rest) (Byte 13 ∷ map Byte (take n rest)) Outside
 front_after_cr [] n some full h k p = absurd (none_below full)

@@ -9,7 +9,7 @@ use Rattle.tn_nvt.specs.Runs.{singles, RefusesEach, HandsFront, HandsSome, Stops
 use Rattle.tn_nvt.proofs.{Cuts.{rest_of, rest_is, front_is, back_is, parts_is, split_is, within_is, run_is, one_front, first_and}, Escaping.kept_then_iac}
 use Rattle.tn_nvt.proofs.{LettingGo.wants_none, Steps.{StepAdvances-none, StepAdvances-append}, Feeding.{Advances-from_advances, kept}}
 
--- what holds anyway holds at a refusal
+-- a fact that needs no call holds at a refusal
 pub on_err : {T E : Type 0} (r : Result T E) (P : Type 0) → P → OnErr r P
 on_err (Ok x) P p = tt
 on_err (Err e) P p = p
@@ -268,7 +268,7 @@ module _ {S : Type 0} (takes gives_up : S → List Item → S → Type 0) where
   pub byte_wants : (here : Progress) (xs : List ℕ) (a : S) → 0 < length xs → KeepsByte here (get_or xs 0 0) → WantsMemory takes here xs a a
   byte_wants here xs a some wanted = said_wants here here xs [] (drop 1 xs) (get_or xs 0 0) a (first_and xs some) (StepAdvances-none here) wanted
 
-  -- what is kept of a subnegotiation, and the IAC after it
+  -- the bytes that are kept of a subnegotiation, and the IAC after them
   pub kept_front : (old new : Gathered) (xs : List ℕ) (n : ℕ) (a : S) → n < length xs → KeepsFront old xs n new
       → HandsFront takes (Inside old) (take (n + 1) xs) (drop (n + 1) xs) a a (InsideIac new)
   kept_front old new xs n a lt k = said_front (Inside old) (InsideIac new) (take (n + 1) xs) (drop (n + 1) xs) [] a a tt refl (kept_then_iac old new xs n lt k)

@@ -1,4 +1,4 @@
--- What has come of a stream begins all that comes of it.
+-- The bytes of a stream that have come begin all that come of it.
 use Rattle.std.specs.Prelude.{◌≡◌, List, ◌++◌}
 
 -- the second list begins with the first

@@ -1,4 +1,4 @@
--- What is handed on of the next bytes, at once.
+-- The items of the next bytes that are passed on at once.
 use Rattle.std.specs.Prelude.{◌≡◌, ◌≢◌, ◌<◌, ◌≤◌, ℕ, List, [], ◌∷◌, ◌++◌, map, take, drop, length, get_or}
 use Rattle.std.specs.Prelude.{All}
 use Rattle.tn_nvt.specs.{declared.items.Item.Item, Sinks.TakesEach, Spelling.{nul, lf, iac}}
@@ -16,20 +16,20 @@ pub record HasRun (bytes : List ℕ) (count : ℕ) : Type 0 where
 abbrev pub BeginsRun : ℕ → Type 0
 BeginsRun byte = (byte ≢ lf) × (byte ≢ nul) × IsPlain byte
 
--- outside of a subnegotiation, so many bytes at the front complete these items and lead on
+-- outside of a subnegotiation, this number of bytes at the front completes these items and leads on
 pub record Escapes (bytes : List ℕ) (count : ℕ) (items : List Item) (next : Progress) : Type 0 where
   pub some : 0 < count
   pub within : count ≤ length bytes
   pub special : AreSpecial items
   pub advances : StepAdvances Outside (take count bytes) items next
 
--- so many bytes at the front are kept, up to an IAC
+-- this number of bytes at the front is kept, up to an IAC
 pub record KeepsFront (old : Gathered) (bytes : List ℕ) (count : ℕ) (new : Gathered) : Type 0 where
   pub within : count ≤ length bytes
   pub ends : count < length bytes → get_or bytes count 0 ≡ iac
   pub advances : StepAdvances (Inside old) (take count bytes) [] (Inside new)
 
--- or one of them needed memory
+-- one of the bytes of a subnegotiation needed memory
 pub record LacksMemory (old : Gathered) (bytes : List ℕ) : Type 0 where
   pub front : List ℕ
   pub byte : ℕ
@@ -43,7 +43,7 @@ pub record LacksMemory (old : Gathered) (bytes : List ℕ) : Type 0 where
 abbrev pub singles : List Item → List (List Item)
 singles items = map (λ item. item ∷ []) items
 
--- of these calls the sink took the first, refused one, and never saw the others
+-- the sink took the first of these calls, refused one, and never got the others
 pub record RefusesEach {S : Type 0} (takes gives_up : S → List Item → S → Type 0) (old : S)
     (calls : List (List Item)) (new : S) : Type 0 where
   pub done : List (List Item)
@@ -63,7 +63,7 @@ pub record HandsFront {S : Type 0} (takes : S → List Item → S → Type 0) (h
   pub taken : TakesEach takes before (calls_of parts) after
   pub advances : StepAdvances here front (all_of (calls_of parts)) next
 
--- so many of the bytes, and at least one
+-- this number of the bytes, and at least one
 pub record HandsSome {S : Type 0} (takes : S → List Item → S → Type 0) (here : Progress)
     (bytes : List ℕ) (count : ℕ) (before after : S) (next : Progress) : Type 0 where
   pub some : 0 < count
@@ -81,7 +81,7 @@ pub record StopsFront {S : Type 0} (takes gives_up : S → List Item → S → T
   pub next : Progress
   pub advances : StepAdvances here (bytes_of parts) (all_of (calls_of parts)) next
 
--- it took what a prefix of the bytes completes, and the byte after that needed memory
+-- the sink took what a prefix of the bytes completes, and the byte after that needed memory
 pub record WantsMemory {S : Type 0} (takes : S → List Item → S → Type 0) (here : Progress)
     (bytes : List ℕ) (before after : S) : Type 0 where
   pub parts : List Part

@@ -1,4 +1,4 @@
--- What a sink is handed of a stream: plain bytes in runs as long as can be, all else item by item.
+-- How a sink is called for a stream: plain bytes in runs as long as can be, all else item by item.
 use Rattle.std.specs.Prelude.{◌≡◌, ◌≢◌, ℕ, ◌<◌, List, [], ◌∷◌, ◌++◌, ◌⊎◌, length, map, flat_map, All}
 use Rattle.tn_nvt.specs.declared.items.Item.{Item, TheVariants.{Byte, Newline, Cmd, Neg, Sub}}
 use Rattle.tn_nvt.specs.{Spelling.{cr, iac}, Feeding.{DecoderState, Advances, KeepsParameter}}
@@ -20,6 +20,7 @@ IsSpecial (Cmd command) = Unit {0}
 IsSpecial (Neg verb option) = Unit {0}
 IsSpecial (Sub option params) = Unit {0}
 
+-- none of these items is a plain byte
 abbrev pub AreSpecial : List Item → Type 0
 AreSpecial [] = Unit {0}
 AreSpecial (item ∷ items) = IsSpecial item × AreSpecial items
@@ -31,18 +32,21 @@ pub data Part : Type 0 where
   -- bytes, and the items that are handed on for them, one by one
   said : List ℕ → List Item → Part
 
+-- the bytes of a part
 abbrev pub part_bytes : Part → List ℕ
 part_bytes (run bytes) = bytes
 part_bytes (said bytes items) = bytes
 
--- what each call is handed
+-- the items that each call gets
 abbrev pub part_calls : Part → List (List Item)
 part_calls (run bytes) = map Byte bytes ∷ []
 part_calls (said bytes items) = map (λ item. item ∷ []) items
 
+-- the bytes of all parts
 abbrev pub bytes_of : List Part → List ℕ
 bytes_of parts = flat_map part_bytes parts
 
+-- the calls of a sink for all parts
 abbrev pub calls_of : List Part → List (List Item)
 calls_of parts = flat_map part_calls parts
 

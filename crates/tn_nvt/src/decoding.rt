@@ -15,7 +15,7 @@ use std::marker::Model;
 use std::mem;
 use thiserror::Error;
 
-/// Why a piece was not read to its end.
+/// The reason why a piece was not read to its end.
 #[derive(Clone, Copy, Debug, Error, PartialEq, Eq)]
 pub enum NvtFault {
     #[error("out of memory")]
@@ -44,7 +44,7 @@ impl From<Refused> for NvtFault {
     }
 }
 
-/// Reads a stream, and keeps what came of an item that is not complete yet.
+/// A reader of a stream, which keeps the bytes of an item that is not complete yet.
 #[derive(Drop)]
 pub struct Decoder {
     place: Place,
@@ -60,8 +60,8 @@ impl Model for Decoder {
 }
 
 impl Decoder {
-    /// A decoder that has read nothing. It takes memory from `alloc` for the parameters of
-    /// subnegotiations alone.
+    /// Makes a decoder that has read nothing. It takes memory from `alloc` only for the parameters
+    /// of subnegotiations.
     pub fn new(alloc: Global) -> Decoder
         ensures { LeadsTo [] [] result }
     {
@@ -71,13 +71,17 @@ impl Decoder {
         }
     }
 
-    /// Appends the items that the piece, cut anywhere, completes (RFC 854, RFC 855). `Memory` where
-    /// `out` or the parameters of a subnegotiation can't grow: the decoder has failed
-    /// then, and `out` keeps the items that were complete before. `Failed` where it had failed before.
+    /// Appends the items that the piece, cut anywhere, completes (RFC 854, RFC 855).
+    ///
+    /// # Errors
+    ///
+    /// - `Memory`: `out` or the parameters of a subnegotiation cannot grow. The decoder has failed
+    ///   then, and `out` keeps the items that were complete before.
+    /// - `Failed`: the decoder had failed before, and nothing changes.
     pub fn feed(&mut self, piece: &[u8], out: &mut Vec<Item>) -> Result<(), NvtFault>
         ensures ok { OnOk result (Feeds self.old piece.now out.old.items out.new.items self.new) }
 
-        // Memory is wanted for an item in `out` and for a parameter alone, and so for no byte of a
+        // Memory is needed only for an item in `out` and for a parameter, so for no byte of a
         // subnegotiation that is discarded.
         ensures stops { let room = vec_capacity out.new - vec_len out.new in
             IfErr result (Stops self.old piece.now out.old.items out.new.items room) }
@@ -97,18 +101,24 @@ impl Decoder {
         Ok(())
     }
 
-    /// Hands the items that the piece, cut anywhere, completes to the sink (RFC 854, RFC 855): plain
-    /// bytes in runs as long as can be, all else item by item. `Refused` where the sink took no more,
-    /// `Memory` where the parameters of a subnegotiation can't grow, and `Failed` where the decoder had
-    /// failed before: it has failed after each of them.
+    /// Passes the items that the piece, cut anywhere, completes to the sink (RFC 854, RFC 855):
+    /// plain bytes in runs as long as can be, all else item by item.
+    ///
+    /// # Errors
+    ///
+    /// After each error the decoder has failed.
+    ///
+    /// - `Refused`: the sink took no more.
+    /// - `Memory`: the parameters of a subnegotiation cannot grow.
+    /// - `Failed`: the decoder had failed before.
     pub fn feed_to<S: Sink>(&mut self, piece: &[u8], sink: &mut S) -> Result<(), NvtFault>
         ensures ok { OnOk result
             (FeedsTo S.takes self.old piece.now sink.old sink.new self.new) }
         ensures refused { IsErrOf result NvtFault.Refused →
             StopsAtSink S.takes S.gives_up self.old piece.now sink.old sink.new }
 
-        // Memory is wanted for a parameter alone, and so for no byte of a subnegotiation that is let
-        // go.
+        // Memory is needed only for a parameter, so for no byte of a subnegotiation that is
+        // discarded.
         ensures memory { IsErrOf result NvtFault.Memory →
             StopsForMemory S.takes self.old piece.now sink.old sink.new }
         ensures lets_go { IsLetGo self.old piece.now → ¬ IsErrOf result NvtFault.Memory }
@@ -129,7 +139,7 @@ impl Decoder {
     }
 }
 
-// Where the decoder stands. Until that is put back it has failed.
+// Takes the place out of the decoder. Until a place is put back, the decoder has failed.
 fn begin(place: &mut Place) -> Result<Place, NvtFault>
     ensures ok { IfOk result (λ stood. stood ≡ place.old) }
     ensures stands { IfOk result (λ stood. stood ≢ here.Failed) }

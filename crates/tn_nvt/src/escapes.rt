@@ -1,4 +1,4 @@
-//! Escapes outside of a subnegotiation, each read at once where all of it has come.
+//! Escapes outside of a subnegotiation, each read at once if all of it has come.
 
 ghost use Rattle.std.specs.Prelude.{◌≡◌, ◌≢◌, ◌<◌, length, slice_index};
 ghost use Rattle.tn_nvt.specs.{declared.places.Body.Body as Held, Machine.{progress, given_items, HasNoRun}};
@@ -11,7 +11,8 @@ use crate::bytes::{CR, LF, NUL};
 use crate::places::{Body, Given, Place, after_iac};
 use tn_codes::Verb;
 
-/// Where the escape that the bytes begin with leads, what it completes, and how many of the bytes it is.
+/// Returns the place to which the escape that the bytes begin with leads, what the escape
+/// completes, and its length in bytes.
 #[inline(always)]
 pub(crate) fn escape(body: &mut Body, bytes: &[u8]) -> (Place, Given, usize)
     requires some { 0 < length bytes.now }
@@ -26,7 +27,7 @@ pub(crate) fn escape(body: &mut Body, bytes: &[u8]) -> (Place, Given, usize)
     after_first_iac(body, bytes)
 }
 
-// A CR that neither LF nor NUL follows is no more than begun.
+// Reads an escape that begins with CR; one that neither LF nor NUL follows is no more than begun.
 #[inline(always)]
 fn after_first_cr(bytes: &[u8]) -> (Place, Given, usize)
     requires some { 0 < length bytes.now }

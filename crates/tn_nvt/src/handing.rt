@@ -1,4 +1,4 @@
-//! What is handed to a sink of the bytes that come next.
+//! Passes what the next bytes complete to a sink.
 
 ghost use Rattle.std.specs.Prelude.{◌≡◌, ◌≢◌, ◌<◌, [], length, slice_index};
 ghost use Rattle.std.specs.Prelude.{IfOk, OnOk, OnErr, IsErrOf, IsTrue};
@@ -19,7 +19,7 @@ use crate::plain::{is_plain, run_len};
 use crate::sinks::{Refused, Sink};
 
 impl Place {
-    /// Hands on what all of the bytes complete, and tells where they lead.
+    /// Passes on what all of the bytes complete, and returns the place to which they lead.
     pub(crate) fn hand_all<S: Sink>(
         self,
         body: &mut Body,
@@ -48,7 +48,8 @@ impl Place {
         Ok(place)
     }
 
-    // The same of some of the bytes, as many at once as this place allows; it tells how many, too.
+    // Passes on what some of the bytes complete, as many at once as this place allows, and returns
+    // the next place and the number of these bytes.
     #[inline(always)]
     fn hand_some<S: Sink>(
         self,
@@ -75,7 +76,8 @@ impl Place {
         }
     }
 
-    // The same of one byte that no run begins with.
+    // Passes on what one byte completes with which no run begins, and returns the next place and
+    // the number of bytes.
     #[inline(always)]
     fn hand_byte<S: Sink>(
         self,
@@ -99,7 +101,8 @@ impl Place {
     }
 }
 
-// Outside of a subnegotiation: runs and escapes, one after another, until an escape leads elsewhere.
+// Passes on runs and escapes outside of a subnegotiation, one after another, until an escape leads
+// elsewhere.
 #[inline(always)]
 fn hand_outside<S: Sink>(
     body: &mut Body,
@@ -148,7 +151,7 @@ fn hand_escape<S: Sink>(
     Ok((next, count))
 }
 
-// Neither LF nor NUL, and plain.
+// Returns whether a run begins with the byte after a CR: it is neither LF nor NUL, and plain.
 fn begins_run(byte: u8) -> bool
     ensures yes { IsTrue result → BeginsRun byte }
     ensures no { ¬ IsTrue result → HasNoRun place.AfterCr byte }
@@ -156,7 +159,7 @@ fn begins_run(byte: u8) -> bool
     byte != LF && byte != NUL && is_plain(byte)
 }
 
-// After a CR: a run, the CR before it, or what one byte completes.
+// Passes on what comes after a CR: a run, the CR before it, or what one byte completes.
 fn hand_after_cr<S: Sink>(
     body: &mut Body,
     rest: &[u8],
@@ -179,7 +182,7 @@ fn hand_after_cr<S: Sink>(
     Ok((next, 1))
 }
 
-// Inside of a subnegotiation: all up to an IAC, and then what the byte after the IAC says.
+// Reads inside of a subnegotiation: all bytes up to an IAC, and then the byte after the IAC.
 #[inline(always)]
 fn hand_inside<S: Sink>(
     body: &mut Body,
@@ -210,7 +213,7 @@ fn hand_inside<S: Sink>(
 }
 
 impl Given {
-    /// Hands on the items one by one.
+    /// Passes on the items one by one.
     #[inline(always)]
     fn hand_to<S: Sink>(self, body: &mut Body, sink: &mut S) -> Result<(), Refused>
         ensures ok { OnOk result (TakesEach S.takes sink.old (singles (given_items self body.old)) sink.new) }

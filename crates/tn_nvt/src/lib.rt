@@ -1,5 +1,8 @@
 //! Reads and writes a Telnet stream as a list of items, and reads it into a sink (RFC 854, 855).
 //!
+//! Begin with `Decoder`, which reads a stream in pieces, and `Item`, which is what it reads. The
+//! `put_` calls write items.
+//!
 //! ```
 //! let mut decoder = Decoder::new(alloc);
 //! decoder.feed(b"ls\r", &mut items)?; // Byte(108), Byte(115); the CR waits for its next byte
@@ -7,8 +10,8 @@
 //! put_neg(Verb::Will, 34, &mut out)?; // ff fb 22
 //! ```
 //!
-//! It does not answer option words, and gives a subnegotiation's parameters as they came. Of urgent
-//! data and Synch it knows nothing.
+//! It does not answer option messages, returns a subnegotiation's parameters as they came, and
+//! ignores urgent data and Synch.
 #![tactic(auto)]
 
 pub use decoding::{Decoder, NvtFault};

@@ -15,10 +15,10 @@ use crate::parameters::Params;
 use std::alloc::{AllocError, Global};
 use tn_codes::{Command, IAC, Verb};
 
-/// The most parameters of a subnegotiation; one with more is discarded.
+/// The most parameters that a subnegotiation may have; one with more is discarded.
 pub const MAX_PARAMETERS: usize = 512;
 
-/// What has come of the next segment of the stream, but for a subnegotiation's bytes.
+/// The part of the next segment of the stream that has come, without a subnegotiation's bytes.
 #[derive(Clone, Copy)]
 pub(crate) enum Place {
     Outside,
@@ -30,23 +30,24 @@ pub(crate) enum Place {
     Failed,
 }
 
-/// How much of a subnegotiation has come.
+/// The part of a subnegotiation that has come.
 #[derive(Clone, Copy)]
 pub(crate) enum Came {
     Nothing,
-    /// Its option, and no more parameters than it may have.
+    /// The option, and no more parameters than a subnegotiation may have.
     Kept(u8),
     Overlong,
 }
 
-/// What has come of a subnegotiation. Its parameters stay where they are from one to the next.
+/// The bytes of a subnegotiation that have come. Their memory is used again for the next
+/// subnegotiation.
 #[derive(Drop)]
 pub(crate) struct Body {
     pub(crate) came: Came,
     pub(crate) params: Params,
 }
 
-/// What one byte completes.
+/// The items that one byte completes.
 #[derive(Clone, Copy)]
 pub(crate) enum Given {
     Nothing,
@@ -61,7 +62,7 @@ pub(crate) enum Given {
 }
 
 impl Body {
-    /// Nothing of a subnegotiation.
+    /// Makes a body that holds nothing of a subnegotiation.
     pub(crate) fn new(alloc: Global) -> Body
         ensures { gathered_of result ≡ machine.Nothing }
     {
@@ -71,7 +72,7 @@ impl Body {
         }
     }
 
-    // One more byte has come.
+    // Keeps one more byte.
     #[inline(always)]
     fn keep(&mut self, byte: u8) -> Result<(), AllocError>
         ensures ok { OnOk result (Lengthens (gathered_of self.old) byte (gathered_of self.new)) }
@@ -94,7 +95,7 @@ impl Body {
         }
     }
 
-    /// Keeps the leading bytes up to an IAC, and tells how many they are.
+    /// Keeps the leading bytes up to an IAC, and returns their number.
     #[inline(always)]
     pub(crate) fn keep_front(&mut self, bytes: &[u8]) -> Result<usize, AllocError>
         ensures ok { IfOk result (λ count. KeepsFront (gathered_of self.old) bytes.now count
@@ -115,7 +116,8 @@ impl Body {
 }
 
 impl Place {
-    /// Where one more byte leads, and what it completes. It takes memory for a parameter alone.
+    /// Returns the place to which one more byte leads, and what it completes. It takes memory only
+    /// for a parameter.
     #[inline(always)]
     pub(crate) fn step(self, body: &mut Body, byte: u8) -> Result<(Place, Given), AllocError>
         ensures ok { IfOk result (λ r. StepAdvances (progress self body.old) (byte ∷ [])

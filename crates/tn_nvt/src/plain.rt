@@ -1,4 +1,4 @@
-//! Where a run of plain bytes ends.
+//! Finds the end of a run of plain bytes.
 
 ghost use Rattle.std.specs.Prelude.{◌≡◌, ◌≤◌, ◌<◌, ◌↔◌, length, take, drop, All, IsTrue, IfSome, slice_index};
 ghost use Rattle.tn_nvt.specs.{Sinks.{IsPlain, EndsRun}, Runs.HasRun};
@@ -7,7 +7,8 @@ use crate::bytes::CR;
 use memchr::memchr2;
 use tn_codes::IAC;
 
-// How many bytes of a run are looked at one by one, which is faster than a search where a run is short.
+// The number of bytes of a run that are looked at one by one, which is faster than a search if a
+// run is short.
 const NEAR: usize = 4;
 
 #[inline(always)]
@@ -17,7 +18,7 @@ pub(crate) fn is_plain(byte: u8) -> bool
     byte != CR && byte != IAC
 }
 
-/// How long the run is that begins with the first byte.
+/// Returns the length of the run that begins with the first byte.
 #[inline(always)]
 pub(crate) fn run_len(bytes: &[u8]) -> usize
     requires some { 0 < length bytes.now }
@@ -30,7 +31,8 @@ pub(crate) fn run_len(bytes: &[u8]) -> usize
     }
 }
 
-// The same where it ends at one of the first few bytes, and there are as many, so that none is counted.
+// Returns the length of the run if it ends at one of the first `NEAR` bytes and there are as many,
+// so that none is counted.
 #[inline(always)]
 fn near_len(bytes: &[u8]) -> Option<usize>
     requires some { 0 < length bytes.now }
@@ -50,7 +52,7 @@ fn near_len(bytes: &[u8]) -> Option<usize>
     None
 }
 
-// The same wherever it ends.
+// Returns the length of the run, wherever it ends.
 #[inline(never)]
 fn far_len(bytes: &[u8]) -> usize
     requires some { 0 < length bytes.now }
@@ -60,7 +62,7 @@ fn far_len(bytes: &[u8]) -> usize
     plain_len(bytes)
 }
 
-// How many leading bytes are plain.
+// Returns the number of leading bytes that are plain.
 fn plain_len(bytes: &[u8]) -> usize
     ensures within { result ≤ length bytes.now }
     ensures plain { All IsPlain (take result bytes.now) }

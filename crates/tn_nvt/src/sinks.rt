@@ -1,4 +1,4 @@
-//! What a stream can be read into.
+//! The sinks into which a stream can be read.
 
 ghost use Rattle.std.specs.Prelude.{List, [], ◌∷◌, map, OnOk, OnErr};
 ghost use Rattle.tn_nvt.specs.{declared.items.Item.{Item, TheVariants.{Byte, Sub}}, Sinks.IsRun};
@@ -6,17 +6,17 @@ ghost use Rattle.tn_nvt.specs.{declared.items.Item.{Item, TheVariants.{Byte, Sub
 use crate::items::Item;
 use crate::parameters::Params;
 
-/// The sink takes no more.
+/// The answer of a sink that takes no more.
 #[derive(Clone, Copy, PartialEq, Eq)]
 pub struct Refused;
 
-/// Takes what a stream is read as: plain bytes in runs, all else item by item. After a refusal it is
-/// called no more.
+/// A sink, which takes what a stream is read as: plain bytes in runs, all else item by item. After
+/// a refusal it is called no more.
 pub trait Sink {
-    /// The items of one call were taken.
+    /// The sink took all items of one call.
     ghost takes: { Self → List Item → Self → Type 0 };
 
-    /// Of the items of one call not all were taken.
+    /// The sink did not take all items of one call.
     ghost gives_up: { Self → List Item → Self → Type 0 };
 
     /// Takes bytes of data, none of them CR or IAC, each an item.
@@ -30,8 +30,8 @@ pub trait Sink {
         ensures ok { OnOk result (takes self.old (item ∷ []) self.new) }
         ensures err { OnErr result (gives_up self.old (item ∷ []) self.new) };
 
-    /// Takes a subnegotiation, whose parameters are lent: what is not taken of them is discarded. By
-    /// itself it makes the item of them, with no copy, and calls `item`.
+    /// Takes a subnegotiation, whose parameters are lent: those that the sink does not take are
+    /// discarded. The default makes the item of them, with no copy, and calls `item`.
     fn sub(&mut self, option: u8, params: &mut Params) -> Result<(), Refused>
         ensures ok { OnOk result (takes self.old (Sub option params.old ∷ []) self.new) }
         ensures err { OnErr result (gives_up self.old (Sub option params.old ∷ []) self.new) }

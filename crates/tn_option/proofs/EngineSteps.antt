@@ -14,7 +14,7 @@ use Rattle.tn_option.specs.declared.q_method.Answer.TheVariants as answer
 use Rattle.tn_option.proofs.OptionLaws.{MovesByCell-moved, LeavesOthers-moved}
 use Rattle.tn_option.proofs.OptionRows.{Stands, world_of, ends_as, wished-Stands, heard-Stands, swapped-Stands, opening-Stands, Stands-EndsAgree}
 
--- for some number of wishes and words
+-- two ends that stand in a world of some number of requests and messages
 record Standing (near far : OptionEnd) : Type 0 where
   pub wishes : ℕ
   pub words : ℕ
@@ -33,7 +33,7 @@ wished-Standing agreed on s t s' p q q' e f st = rw (e, f) (record { wishes = _;
 swapped-Standing : (near far : OptionEnd) → Standing near far → Standing far near
 swapped-Standing near far st = record { wishes = st.wishes; words = st.words; stands = swapped-Stands _ st.stands }
 
--- what one word says about this side of this option, if anything
+-- the state that one message asks for on this side of this option, if it is about it
 abbrev told_if : Bool → Bool → Option Bool
 told_if true on = Some on
 told_if false on = None
@@ -67,7 +67,7 @@ same-code code = elim (eqb_tells code code) [ inl same ↦ same.0 | inr other �
 other-code : (c code : ℕ) → (code ≢ c) → (c == code) ≡ false
 other-code c code differ = elim (eqb_tells c code) [ inl same ↦ absurd (differ (sym same.1)) | inr other ↦ other.0 ]
 
--- a word is about this side of this option, or about something else
+-- a message is about this side of this option, or about something else
 abbrev This : Side → ℕ → Side → ℕ → Type 0
 This side code s c = (s ≡ side) × (c ≡ code)
 
@@ -87,7 +87,7 @@ told-which Them code DontIt c = inr (refl, inr (λ e. cc))
 told-which Them code Will c = code-which Them code c
 told-which Them code Wont c = code-which Them code c
 
--- what an answer says to the far end
+-- an answer asks the far end for its state
 said-told : (side : Side) (code : ℕ) (a : Answer) → told_one (facing side) code (word_of_answer side code a) ≡ word_of a
 said-told Us code answer.SayOn = ap (λ (b : Bool). told_if b true) (same-code code)
 said-told Us code answer.SayOff = ap (λ (b : Bool). told_if b false) (same-code code)
@@ -95,12 +95,12 @@ said-told Them code answer.SayOn = ap (λ (b : Bool). told_if b true) (same-code
 said-told Them code answer.SayOff = ap (λ (b : Bool). told_if b false) (same-code code)
 said-told side code a = refl
 
--- a wish sends what its answer says
+-- a request sends the message of its answer
 asked-said : (side : Side) (code : ℕ) (a : Answer) → asked_word (result_of_answer side code a) ≡ word_of_answer side code a
 asked-said side code answer.Nothing = refl
 asked-said side code a = refl
 
--- what is said about another side or option tells nothing of this one
+-- a message about another side or option does not concern this one
 on-elsewhere : (side : Side) (code : ℕ) (s : Side) (c : ℕ) → IsElsewhere s c side code → (is_about (facing side) (word_on s) && (c == code)) ≡ false
 on-elsewhere Us code Us c (inl differ) = other-code c code differ
 on-elsewhere Us code Us c (inr differ) = absurd (differ refl)
@@ -150,7 +150,7 @@ unfolding state_of agrees_to
 answered_now-told o side code cause option e = rw e (ap (λ (r : Option (Verb × ℕ)). told_one (facing side) code r) (asked-said side code _)
     ∙ said-told side code _)
 
--- an end and what comes to it, and the words to the far end
+-- an end and the messages to it, and the messages to the far end
 abbrev Between : Side → ℕ → Options → List (Verb × ℕ) → OptionEnd → Type 0
 Between side code o words far = Standing (ends_as (state_of o side code) (words_about side code words)) far
 
@@ -161,7 +161,7 @@ same-Standing : (s t s' : QState) (p p' q q' : List Bool) → s' ≡ s → p' �
     → Standing (ends_as s' p') (ends_as t q')
 same-Standing s t s' p p' q q' e f g st = rw (e, f, g) st
 
--- a word more that tells nothing
+-- one more message that does not concern this option
 told-silent : (side : Side) (code : ℕ) (words : List (Verb × ℕ)) (more : Option (Verb × ℕ)) → told_one side code more ≡ None
     → words_about side code (words ++ option_to_list more) ≡ words_about side code words
 told-silent side code words more e = told-append side code words more ∙ ap (λ (r : Option Bool). with_word (words_about side code words) r) e
@@ -176,7 +176,7 @@ heard-cause Wont = refl
 heard-cause DoIt = refl
 heard-cause DontIt = refl
 
--- a word about this side of this option
+-- a message about this side of this option
 got-this : (o : Options) (verb : Verb) (c : ℕ) (rest out : List (Verb × ℕ)) (t : QState) (option : Known) → known_option c ≡ Some option
     → Standing (ends_as (state_of o (side_of verb) c) (says_on verb ∷ words_about (side_of verb) c rest)) (far_end (side_of verb) c t out)
     → Between (side_of verb) c (options_after_word o verb c) rest (far_end (side_of verb) c t (out ++ option_to_list (reply_to o verb c)))
@@ -188,7 +188,7 @@ got-this o verb c rest out t option e st =
     ∙ ap (λ (k : OptionEvent). word_of (cell_shown o (side_of verb) c k).1) (heard-cause verb)))
     st
 
--- a word about something else
+-- a message about something else
 got-other : (o : Options) (side : Side) (code : ℕ) (verb : Verb) (c : ℕ) (rest out : List (Verb × ℕ)) (t : QState) → IsElsewhere (side_of verb) c side code
     → Between side code o rest (far_end side code t out)
     → Between side code (options_after_word o verb c) rest (far_end side code t (out ++ option_to_list (reply_to o verb c)))
@@ -220,7 +220,7 @@ got-word o side code verb c rest out t option e (inr elsewhere) st =
     (subst (λ (b : Bool). Standing (ends_as (state_of o side code) (with_word_about b (says_on verb) (words_about side code rest))) (far_end side code t out))
     elsewhere.0 st)
 
--- both ends, at one side of one option
+-- both ends stand, at one side of one option
 abbrev PairStanding : Side → ℕ → EnginePair → Type 0
 PairStanding side code e = Between side code e.here e.to_here (far_end side code (state_of e.there (facing side) code) e.to_there)
 
@@ -231,7 +231,7 @@ got-PairStanding side code option known_as [] e st is = rw is st
 got-PairStanding side code option known_as (word ∷ rest) e st is =
     got-word e.here side code word.0 word.1 rest e.to_there _ option known_as (told-which side code word.0 word.1) st
 
--- a wish about one side of one option
+-- a request about one side of one option
 side-which : (side : Side) (code : ℕ) (s : Side) (c : ℕ) → This side code s c ⊎ IsElsewhere s c side code
 side-which Us code Us c = elim (eqb_tells c code) [ inl same ↦ inl (refl, same.1) | inr other ↦ inr (inl (λ e. other.1 (sym e))) ]
 side-which Them code Them c = elim (eqb_tells c code) [ inl same ↦ inl (refl, same.1) | inr other ↦ inr (inl (λ e. other.1 (sym e))) ]

@@ -6,14 +6,14 @@ use Rattle.tn_option.specs.declared.q_method.{QState.{QState, TheVariants.{No, Y
 use Rattle.tn_option.specs.declared.q_method.{OptionEvent.TheVariants.{HeardOn, HeardOff}, Answer.Answer}
 use Rattle.tn_option.specs.declared.q_method.Answer.TheVariants as answer
 
--- where the option stands at one end, and the words that are on their way to it, the next one first.
--- A word is whether it is the other end's word for on (WILL or DO) or for off (WONT or DONT)
+-- the state of the option at one end, and the messages that are on their way to it, the next one first. A
+-- message is whether it is the other end's message for on (WILL or DO) or for off (WONT or DONT)
 pub record OptionEnd : Type 0 where
   pub state : QState
   pub coming : List Bool
 
--- the end that performs the option and the other end, how many wishes were accepted, and how many
--- words were sent
+-- the end that performs the option and the other end, the number of accepted requests, and the number of
+-- messages that were sent
 pub record OptionWorld : Type 0 where
   pub performing : OptionEnd
   pub other : OptionEnd
@@ -23,16 +23,17 @@ pub record OptionWorld : Type 0 where
 -- The side is that of the end at which it happens: Us at the end that performs the option. The first
 -- Bool: this end agrees, at this step, to have the option on
 pub data OptionStep : Type 0 where
-  -- it is wished on or off
+  -- an end requests that it be on or off
   wish : Side → Bool → Bool → OptionStep
-  -- the next word comes, if there is one
+  -- the next message arrives, if there is one
   deliver : Side → Bool → OptionStep
 
+-- the event that a message is at the end where it arrives
 abbrev pub cause_of_word : Bool → OptionEvent
 cause_of_word true = HeardOn
 cause_of_word false = HeardOff
 
--- the word that an answer sends
+-- the message that an answer sends
 abbrev pub word_of : Answer → Option Bool
 word_of answer.Nothing = None
 word_of answer.SayOn = Some true
@@ -41,7 +42,7 @@ word_of answer.AlreadySo = None
 word_of answer.AlreadyAsked = None
 word_of answer.AlreadyQueued = None
 
--- one for a wish that is accepted
+-- one for a request that is accepted
 abbrev pub accepted_count : Answer → ℕ
 accepted_count answer.Nothing = 1
 accepted_count answer.SayOn = 1
@@ -50,15 +51,17 @@ accepted_count answer.AlreadySo = 0
 accepted_count answer.AlreadyAsked = 0
 accepted_count answer.AlreadyQueued = 0
 
+-- the messages on their way with one more, if there is one
 abbrev pub with_word : List Bool → Option Bool → List Bool
 with_word coming None = coming
 with_word coming (Some word) = coming ++ (word ∷ [])
 
+-- one for a message that is sent
 abbrev pub word_count : Option Bool → ℕ
 word_count None = 0
 word_count (Some word) = 1
 
--- the performing end takes a cell of the table: its next state, and the word that it sends
+-- the performing end takes a cell of the table: its next state, and the message that it sends
 abbrev pub world_after_cell : QState × Answer → OptionWorld → OptionWorld
 world_after_cell c w = record w {
   performing = record w.performing { state = c.0 };
@@ -66,9 +69,11 @@ world_after_cell c w = record w {
   words = w.words + word_count (word_of c.1);
 }
 
+-- the world after a request of the performing end
 abbrev pub world_after_wish : QState × Answer → OptionWorld → OptionWorld
 world_after_wish c w = record (world_after_cell c w) { wishes = w.wishes + accepted_count c.1 }
 
+-- the world after the performing end takes the next message, if there is one
 abbrev pub world_after_word : Bool → List Bool → OptionWorld → OptionWorld
 world_after_word agreed [] w = w
 world_after_word agreed (word ∷ rest) w =
@@ -79,6 +84,7 @@ world_after_word agreed (word ∷ rest) w =
 abbrev pub swapped_world : OptionWorld → OptionWorld
 swapped_world w = record w { performing = w.other; other = w.performing }
 
+-- the world after a step, of either end
 abbrev pub step : OptionStep → OptionWorld → OptionWorld
 step (wish Us agreed on) w = world_after_wish (cell agreed (wish_for on) w.performing.state) w
 step (wish Them agreed on) w =
@@ -86,11 +92,12 @@ step (wish Them agreed on) w =
 step (deliver Us agreed) w = world_after_word agreed w.performing.coming w
 step (deliver Them agreed) w = swapped_world (world_after_word agreed w.other.coming (swapped_world w))
 
+-- the world after some steps, one after another
 abbrev pub steps : List OptionStep → OptionWorld → OptionWorld
 steps [] w = w
 steps (first ∷ rest) w = steps rest (step first w)
 
--- the option is off at both ends, and nothing was wished or said
+-- the option is off at both ends, and neither end has requested or sent anything
 abbrev pub opening_world : OptionWorld
 opening_world = record {
   performing = record { state = No; coming = [] };
@@ -99,12 +106,13 @@ opening_world = record {
   words = 0;
 }
 
--- where no word is on its way, the option is on at both ends or off at both
+-- if no message is on its way, the option is on at both ends or off at both
 abbrev pub EndsAgree : OptionWorld → Type 0
 EndsAgree w =
     w.performing.coming ≡ [] → w.other.coming ≡ []
     → ((w.performing.state ≡ Yes) × (w.other.state ≡ Yes))
     ⊎ ((w.performing.state ≡ No) × (w.other.state ≡ No))
 
+-- at most two messages were sent for each accepted request
 abbrev pub FewWords : OptionWorld → Type 0
 FewWords w = w.words ≤ 2 * w.wishes

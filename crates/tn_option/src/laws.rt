@@ -1,4 +1,4 @@
-//! Laws of the negotiation, over the definitions alone.
+//! Laws of the negotiation, only over the definitions.
 
 ghost use Rattle.std.specs.Prelude.{◌≡◌, ℕ, Bool, None, Some, List};
 ghost use Rattle.tn_codes.specs.declared.codes.Verb.{Verb};
@@ -10,7 +10,7 @@ ghost use Rattle.tn_option.specs.EnginePair.{EngineStep, engine_steps, pair_of, 
 ghost use Rattle.tn_option.specs.declared.{known.Known.Known, negotiation.Agree.Agree, q_method.Side.Side};
 ghost use Rattle.tn_option.specs.declared.q_method.QState.TheVariants.{No};
 
-/// A word or a wish about an option that is none of the four changes nothing.
+/// A message or a request about an option that is none of the four changes nothing.
 pub fn unknown_options_change_nothing()
     ensures words { (o : Options) (verb : Verb) (code : ℕ) → known_option code ≡ None →
         options_after_word o verb code ≡ o }
@@ -20,7 +20,7 @@ pub fn unknown_options_change_nothing()
         state_of o side code ≡ No }
 {}
 
-/// A word about one of the four options moves its side by one cell of the table, and leaves the
+/// A message about one of the four options moves its side by one cell of the table, and leaves the
 /// other side, the other options and what this end agrees to.
 pub fn words_change_one_place()
     ensures moves { (o : Options) (verb : Verb) (code : ℕ) (option : Known) → known_option code ≡ Some option
@@ -31,7 +31,8 @@ pub fn words_change_one_place()
         AgreesAsBefore o (options_after_word o verb code) }
 {}
 
-/// A wish does so likewise.
+/// A request about one of the four options moves its side by one cell of the table, and leaves the
+/// other side, the other options and what this end agrees to.
 pub fn wishes_change_one_place()
     ensures moves { (o : Options) (side : Side) (code : ℕ) (on : Bool) (option : Known)
         → known_option code ≡ Some option →
@@ -42,16 +43,16 @@ pub fn wishes_change_one_place()
         → AgreesAsBefore o (options_after_wish o side code on) }
 {}
 
-/// Whatever the two ends wish, whatever each agrees to and whenever the words come: where no word
-/// about an option is on its way, it is on at both ends or off at both, and no more than two words
-/// were sent for each accepted wish.
+/// If no message about an option is on its way, the option is on at both ends or off at both, and
+/// no more than two messages were sent for each accepted request. This holds whichever options the
+/// two ends request and agree to, and in whatever order messages arrive.
 pub fn options_agree()
     ensures ends { (list : List OptionStep) → EndsAgree (steps list opening_world) }
     ensures words { (list : List OptionStep) → FewWords (steps list opening_world) }
 {}
 
-/// The same of two whole ends, whose words about all options share the way: each of the four options,
-/// on either side, where no word about it is on its way.
+/// Two whole ends, whose messages about all options share one way, agree on each of the four
+/// options, on either side, if no message about that side of it is on its way.
 pub fn engines_agree()
     ensures { (here there : Agree) (list : List EngineStep) (side : Side) (code : ℕ) (option : Known)
         → known_option code ≡ Some option → EnginesAgree (engine_steps list (pair_of here there)) side code }

@@ -19,7 +19,7 @@ unless (Err Memory) P is = tt
 unless (Err Network) P is = let bad = is in cc
 unless (Err Limit) P is = let bad = is in cc
 
--- what was counted of sessions with such options and such jobs
+-- the counts of sessions with such options and such jobs
 abbrev pub Counted : {M J : Type 0} → (M → JobFacts J) → (M → Option ℕ) → (TcpStream → Type 0) → Result Served ServeFault
     → SessionOptions → (M → Type 0) → Type 0
 Counted facts left turned result options made =
@@ -47,7 +47,7 @@ counted_alone (Ok served) None own joined none counted = (λ _. counted, tt)
 counted_alone (Ok served) (Some t) own joined none counted = absurd (cc)
 counted_alone (Err fault) to own joined none counted = tt
 
--- one that is joined to a service has counted sessions that are joined to it
+-- a server that is joined to a service has counted sessions that are joined to it
 pub counted_joined : {T : Type 0} (result : Result Served ServeFault) (to : Option T) (t : T) (own : Served → Type 0) (joined : T → Served → Type 0)
     → to ≡ Some t → IfOk result (joined t) → IfOk result (λ served. (to ≡ None → own served) × IfSome to (λ t. joined t served))
 counted_joined (Ok served) None t own joined is counted = absurd (cc)

@@ -1,4 +1,4 @@
--- What comes of the words of a command line.
+-- The outcomes of the arguments of a command line.
 use Rattle.std.specs.Prelude.{◌≡◌, ◌≢◌, ◌⊎◌, ⊤, ℕ, Option, Some, None, Result, Err, OnOk, OnErr, IfOk, IfErr}
 use Rattle.std.specs.{Prelude.{IsErrOf, List, codes, option_map, string_bytes}, Io.KnownBytes.Appends}
 use Rattle.tn_cli.specs.{Ends.{EndsDecode, EndsLocal, EndsReplay, EndsWorld}, arguments.Ranges.IsWithinRanges}
@@ -22,7 +22,7 @@ use Rattle.tn_program.specs.declared.outcome.Outcome.TheVariants as outcome
 use Rattle.tn_session.specs.roster.Held.{IsLimit}
 use Rattle.tn_cli.specs.declared.arguments.words.Asked.TheVariants as asked
 
--- What came of serving.
+-- The outcome of serving.
 pub record EndsServing (machine : Machine) (serving : ServeWords) (ended : Result Served ServeFault)
     (old new : Option (List ℕ)) : Type 0 where
   pub all : IfOk ended (ServesUntil (count_as serving.count)
@@ -34,7 +34,7 @@ pub record EndsServing (machine : Machine) (serving : ServeWords) (ended : Resul
   pub limit : IsErrOf ended serve.Limit → ¬ IsLimit serving.sessions
   pub unwritten : new ≡ old
 
--- What came of connecting. At a port that the machine does not know nothing was asked for.
+-- The outcome of connecting. At a port that the machine does not know nothing was asked for.
 pub record EndsConnecting (machine : Machine) (connecting : ConnectWords)
     (ended : Result Connected ConnectFault) (input : KnownTyping)
     (old new : Option (List ℕ)) : Type 0 where
@@ -48,7 +48,7 @@ pub record EndsConnecting (machine : Machine) (connecting : ConnectWords)
       ⊎ IsUnknown connecting.port ended
   pub unwritten : OnErr ended (ended ≢ Err connect.Session → new ≡ old)
 
--- What came of a talk with a service that takes lines, if the machine knows its port.
+-- The outcome of a talk with a service that takes lines, if the machine knows its port.
 pub record EndsTalking (machine : Machine) (connecting : ConnectWords)
     (ended : Result TalkReport ConnectFault)
     (origin : KeySource)
@@ -62,7 +62,7 @@ pub record EndsTalking (machine : Machine) (connecting : ConnectWords)
       (machine.network.finds (string_bytes connecting.host) port) machine.network.dials) ended
       ⊎ IsUnknown connecting.port ended
 
--- What came of writing the help.
+-- The outcome of writing the help.
 pub record EndsHelp (ended : Result ⊤ CliFault) (old new : Option (List ℕ)) : Type 0 where
   pub ok : OnOk ended ((help : List ℕ) × Appends old new help)
   pub fault : IfErr ended (λ f. f ≡ fault.Write)
@@ -80,7 +80,7 @@ pub record EndsVersion (ended : Result ⊤ CliFault) (old new : Option (List ℕ
 abbrev pub AsksForFile : ConnectWords → Type 0
 AsksForFile connecting = (connecting.trace ≢ None) ⊎ (connecting.log ≢ None)
 
--- what was asked for was run, and this came of it
+-- the run that was asked for was done, and this is its outcome
 abbrev pub ComesOfRun : Machine → Asked → KeySource → Option (List ℕ) → Option (List ℕ) → Option (List ℕ)
     → Outcome → Type 0
 ComesOfRun machine a origin bytes old new (outcome.Local ended) =

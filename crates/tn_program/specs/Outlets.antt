@@ -1,4 +1,4 @@
--- What a screen holds whose reader may leave.
+-- The content of a screen whose reader may leave.
 use Rattle.std.specs.Prelude.{◌≡◌, ◌⊎◌, ℕ, Bool, true, false, Option, None, List, length, Result, Ok}
 use Rattle.std.specs.{Prelude.IsErrAnd, Io.KnownBytes.WriteAppends, IoError.error_kind}
 use Rattle.std.specs.declared.io.{Error.Error, ErrorKind.TheVariants.BrokenPipe}
@@ -8,7 +8,7 @@ abbrev pub held_by : Bool → Option (List ℕ) → Option (List ℕ)
 held_by true held = None
 held_by false held = held
 
--- what the screen itself answered is handed on; at a session all is taken where its reader has left
+-- the screen's own answer is passed on; at a session all is taken if its reader has left
 abbrev pub IsHandedOn : Bool → Result ℕ Error → Result ℕ Error → List ℕ → Type 0
 IsHandedOn at_session wrote result bytes =
     (result ≡ wrote)

@@ -1,4 +1,4 @@
--- How the launcher tells the special characters of a terminal.
+-- The form in which the launcher passes the special characters of a terminal.
 use Rattle.std.specs.Prelude.{ℕ, nat_eq, Option, Some, None, List, option_map, slice_index, if◌then◌else◌}
 use Rattle.std.specs.Result.{result_ok}
 use Rattle.hex.specs.Hex.{decode_sized}

@@ -3,7 +3,7 @@ use Rattle.std.specs.Prelude.{◌≡◌, ⊤, ℕ, Result, Err}
 use Rattle.tn_connect.specs.declared.fault.ConnectFault.{ConnectFault, TheVariants.Network}
 use Rattle.tn_cli.specs.declared.arguments.settings.Port.{Port, TheVariants.{Number, Service}}
 
--- the port has this number; which one a service has, a file of the machine says
+-- the port has this number; a file of the machine gives the one that a service has
 abbrev pub IsPort : Port → ℕ → Type 0
 IsPort (Number number) port = port ≡ number
 IsPort (Service name) port = ⊤

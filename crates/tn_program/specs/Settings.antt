@@ -1,4 +1,4 @@
--- What was asked for, as sessions over connections take it.
+-- The request of the arguments, as sessions over connections take it.
 use Rattle.std.specs.Prelude.{◌≡◌, ◌||◌, ◌&&◌, not, is_some, ◌/◌, ℕ, Bool, true, IsTrue, false, Option, None}
 use Rattle.std.specs.Prelude.{Some, IsSome, unwrap_or, Result, List, [], ◌∷◌, map, codes, eqb, nat_eq, Ok}
 use Rattle.std.specs.Prelude.{if◌then◌else◌, Err, string_bytes, vec_items}
@@ -19,6 +19,7 @@ use Rattle.tn_cli.specs.declared.arguments.settings.ReturnBytes.{ReturnBytes}
 use Rattle.tn_cli.specs.declared.arguments.settings.Escape.TheVariants as escape
 use Rattle.tn_cli.specs.declared.arguments.settings.ReturnBytes.TheVariants as bytes
 
+-- the side that is to edit, as `--local` asks
 abbrev pub editing_as : Bool → Editing
 editing_as true = Local
 editing_as false = Remote
@@ -41,32 +42,34 @@ is_loopback host =
     starts_with eqb host (codes "127.") || bytes_eq host (codes "::1") || bytes_eq host (codes "localhost")
     || names_path host
 
--- whether only this machine reaches a server, as far as its words tell: nothing is known of a socket that is
--- handed in
+-- whether only this machine reaches a server, as far as its arguments show: nothing is known of a socket that
+-- is handed in
 abbrev pub is_local : ServeWords → Bool
 is_local asked =
     not (is_some asked.socket.handed)
     && list_all (λ host. is_loopback (string_bytes host)) (vec_items asked.hosts)
 
--- where a server listens: at each of these hosts, or as the socket is handed in
+-- the places at which a server listens: each of these hosts, or the socket that is handed in
 abbrev pub places_at : List (List ℕ) → ℕ → Option ℕ → List Place
 places_at hosts port None = map (λ host. record { host = host; port = port; handed = None }) hosts
 places_at hosts port (Some descriptor) =
     record { host = []; port = port; handed = Some descriptor } ∷ []
 
+-- the places at which the server that was asked for listens
 abbrev pub places_as : ServeWords → List Place
 places_as asked =
     places_at (map string_bytes (vec_items asked.hosts)) asked.socket.port asked.socket.handed
 
--- how many sessions one address may have: as many as all may, for 0 and, if none are named, at a local
--- server; elsewhere half of all, and one at least
+-- half of all sessions, and at least one
 abbrev pub half_of : ℕ → ℕ
 half_of sessions = if nat_eq sessions 1 then 1 else sessions / 2
 
+-- the most sessions of one host if none is given, by whether only this machine reaches the server
 abbrev pub usual_per_host : Bool → ℕ → ℕ
 usual_per_host true sessions = 64
 usual_per_host false sessions = half_of sessions
 
+-- the most sessions of one host, as `--per-host` gives it
 abbrev pub per_host_as : Option ℕ → Bool → ℕ → ℕ
 per_host_as (Some count) loopback sessions = if nat_eq count 0 then 64 else count
 per_host_as None loopback sessions = usual_per_host loopback sessions
@@ -77,6 +80,7 @@ idle_as (Some seconds) loopback = seconds
 idle_as None true = 0
 idle_as None false = 3600
 
+-- the options that the sessions of the server that was asked for share
 abbrev pub options_as : ServeWords → SessionOptions
 options_as asked =
     record {
@@ -91,7 +95,7 @@ pub record AnswersAsAsked (count : ℕ) (jobs : Answerers) : Type 0 where
   pub first : IsTrue jobs.first
   pub ticks : jobs.ticks ≡ count
 
--- how lines go to the service
+-- the form in which lines go to the service
 abbrev pub lines_as : ServeWords → LineFormat
 lines_as asked =
     record {
@@ -101,8 +105,8 @@ lines_as asked =
       sends_signals = asked.sends_signals;
     }
 
--- the jobs are still to be joined, over this network, to the service at this host and port, which is dialled for
--- so many seconds; lines go there so
+-- the jobs are still to be joined, over this network, to the service at this host and port, which is dialled
+-- for this number of seconds; lines go there so
 pub record JoinsAsAsked {H N : Type 0} (network : H) (name : List ℕ) (number seconds : ℕ) (so : LineFormat)
     (jobs : Joiner H N)
     : Type 0 where
@@ -122,21 +126,23 @@ window_as asked =
       limit = asked.line_limit;
     }
 
+-- the escape character of a terminal, if it has one
 abbrev pub escape_as : Escape → Option ℕ
 escape_as (escape.Key key) = Some key
 escape_as escape.None = None
 
+-- the bytes that RETURN sends
 abbrev pub return_as : ReturnBytes → ReturnKey
 return_as bytes.CrNul = CrNul
 return_as bytes.CrLf = CrLf
 return_as bytes.Lf = Lf
 
--- how long a line may be that is edited while LINEMODE is off, if any is
+-- the most bytes of a line that is edited while LINEMODE is off, if any is
 abbrev pub line_mode_as : Mode → ℕ → Option ℕ
 line_mode_as Auto limit = Some limit
 line_mode_as Char limit = None
 
--- where the keys come from: with the standard characters a terminal has none of its own
+-- the source of the keys: with the standard characters a terminal has none of its own
 abbrev pub origin_as : Characters → KeySource → KeySource
 origin_as Standard (Terminal own) = Terminal none_own
 origin_as Standard Reader = Reader

@@ -1,4 +1,4 @@
--- The status of a process, by what came of its words.
+-- The status of a process, by the outcome of its arguments.
 use Rattle.std.specs.Prelude.{ℕ, Result, Ok, Err}
 use Rattle.tn_cli.specs.Faults.{status_after}
 use Rattle.tn_connect.specs.declared.{fault.ConnectFault.ConnectFault, talks.TalkReport.TalkReport}
@@ -10,11 +10,13 @@ use Rattle.tn_serve.specs.declared.fault.ServeFault.TheVariants as serve
 use Rattle.tn_program.specs.declared.outcome.Outcome.{Outcome}
 use Rattle.tn_program.specs.declared.outcome.Outcome.TheVariants as outcome
 
+-- the status of a fault of serving
 abbrev pub status_of_serving : ServeFault → ℕ
 status_of_serving serve.Network = 1
 status_of_serving serve.Memory = 1
 status_of_serving serve.Limit = 2
 
+-- the status of a fault of connecting
 abbrev pub status_of_connecting : ConnectFault → ℕ
 status_of_connecting connect.Network = 1
 status_of_connecting connect.Memory = 1
@@ -42,7 +44,7 @@ abbrev pub status_after_talking : Result TalkReport ConnectFault → ℕ
 status_after_talking (Ok report) = status_of_over report.over
 status_after_talking (Err fault) = status_of_connecting fault
 
--- 0 where what was asked for was done, and else the status of the fault that met it
+-- 0 if the run that was asked for was done, and else the status of the fault that met it
 abbrev pub status_of : Outcome → ℕ
 status_of (outcome.Local ended) = status_after ended
 status_of (outcome.Replay ended) = status_after ended

@@ -9,10 +9,10 @@ use std::io::{ErrorKind, Read, Write};
 use std::sync::Arc;
 use tn_cli::arguments::ServeWords;
 
-/// How many bytes such a file has at most.
+/// The most bytes of such a file.
 const MOST_BYTES: u64 = 65_536;
 
-/// What each client is shown first. If the file can't be read, that is noted.
+/// Reads the text that each client is shown first. If the file cannot be read, that is noted.
 pub(crate) fn read_banner<H: Files<File = File>>(
     rt: &H,
     alloc: Global,

@@ -1,4 +1,4 @@
-//! What the servers of a machine may count.
+//! The counts that the servers of a machine may have.
 
 use crate::serving::Noting;
 use tn_jobs::Job;
@@ -9,13 +9,13 @@ use tn_serve::services::{
 };
 use tn_session::Maker;
 
-/// A machine at which `tn serve` runs. The relation holds of what a server counts that was asked for by these
-/// words.
+/// A machine at which `tn serve` runs. The relation holds of the counts of a server that was asked
+/// for by these arguments.
 pub trait Serves {
     ghost use Rattle.tn_serve.specs.declared.served.Served.{Served};
     ghost use Rattle.tn_cli.specs.declared.arguments.settings.ServeWords.{ServeWords};
 
-    // each session that it counts is one that the words ask for
+    // each session that it counts is one that the arguments ask for
     ghost serves: { Self → ServeWords → Served → Type 0 };
 }
 

@@ -13,7 +13,7 @@ use tn_cli::arguments::ConnectWords;
 use tn_connect::Link;
 use tn_net::{ClientFiles, PRIVATE, is_device, open_device};
 
-/// The file that gets the trace, if one is wanted. If it can't be made, that is noted.
+/// Opens the file that gets the trace, if one is wanted. If it cannot be made, that is noted.
 pub(crate) fn open_trace<H: Files<File = File>>(
     rt: &H,
     alloc: Global,
@@ -34,7 +34,8 @@ pub(crate) fn open_trace<H: Files<File = File>>(
     }
 }
 
-/// Has what the screen gets appended to a file, if that is wanted. If it can't be opened, that is noted.
+/// Has what the screen gets appended to a file, if that is wanted. If it cannot be opened, that is
+/// noted.
 pub(crate) fn open_log<H: Files<File = File> + Wait>(
     rt: &H,
     asked: &ConnectWords,

@@ -1,4 +1,7 @@
-//! The program `tn`: takes its words and its streams, does what they ask for, and gives a status.
+//! The program `tn`: takes its arguments and its streams, does the run that they ask for, and
+//! returns a status.
+//!
+//! Begin with `run_words`, and with `Streams`, the streams of a process.
 //!
 //! ```
 //! let link = Arc::new(alloc, Link::new())?;
@@ -10,7 +13,7 @@
 //! let status = run_words(rt, alloc, Ok(words), streams, &mut rt.stdout(), &mut rt.stderr());
 //! ```
 //!
-//! It does not set a terminal to raw mode: whoever starts it does.
+//! It does not set a terminal to raw mode: its starter, such as the launcher, does.
 #![tactic(auto)]
 
 pub use counting::Serves;

@@ -114,7 +114,7 @@ const DROPPED: usize = 15;
 
 const ROWS: usize = 16;
 
-/// What a server has counted.
+/// The counts of a server.
 #[derive(Drop)]
 pub(crate) struct Counts {
     rows: Vec<AtomicU64>,
@@ -153,12 +153,12 @@ impl Counts {
         }
     }
 
-    /// Whether something was counted since this was asked last.
+    /// Returns whether something was counted since the last call.
     pub(crate) fn take_changed(&self) -> bool {
         self.has_changed.swap(false, Ordering::SeqCst)
     }
 
-    /// All of them in the text form of Prometheus.
+    /// Returns all counts in the text form of Prometheus.
     pub(crate) fn text(&self, alloc: Global) -> Result<Vec<u8>, AllocError> {
         let mut text = String::new(alloc);
         let mut row = 0usize;
@@ -179,7 +179,7 @@ impl Counts {
         Ok(text.into_bytes())
     }
 
-    // The sessions that run are those that began and have not ended.
+    // Returns the number of sessions that run: those that began and have not ended.
     fn value_at(&self, row: usize) -> u64 {
         if row != OPEN {
             return self.value(row);
@@ -256,7 +256,7 @@ impl VisitSource for Ended<'_> {
     }
 }
 
-// The place of a cause among the rows of causes. The last is of faults.
+// Returns the place of a cause among the rows of causes. The last is of faults.
 fn place_of(cause: Option<&String>) -> usize
     ensures within { result ≤ 7 }
 {

@@ -1,4 +1,4 @@
-//! What comes of the words of a command line, and its status.
+//! The outcome of the arguments of a command line, and its status.
 
 ghost use Rattle.std.specs.Prelude.{◌≡◌};
 ghost use Rattle.tn_cli.specs.Faults.{status_after};
@@ -12,40 +12,43 @@ use tn_connect::{ConnectFault, Connected, Over, TalkReport};
 use tn_cores::streams::{Drain, write_all};
 use tn_serve::{ServeFault, Served};
 
-/// The status of a process whose words were not accepted.
+/// The status of a process whose arguments were not accepted.
 const USAGE: u8 = 2;
 
 /// The status of a process whose user left a talk by an interrupt, as a shell gives it.
 const INTERRUPTED: u8 = 130;
 
-/// What comes of the words of a command line: what the run that they ask for returned, or why none was run.
+/// The outcome of the arguments of a command line: the result of the run that they ask for, or why
+/// none was run.
 #[derive(Drop)]
 pub enum Outcome {
     Local(Result<(), CliFault>),
     Replay(Result<(), CliFault>),
-    /// With what of the stream is not printed.
+    /// The result of `tn decode`, with the parts of the stream that are not printed.
     Decode(Result<Unprinted, CliFault>),
     World(Result<(), CliFault>),
     Served(Result<Served, ServeFault>),
     Connected(Result<Connected, ConnectFault>),
     /// A talk with a service that takes lines.
     Talked(Result<TalkReport, ConnectFault>),
-    /// They ask for a connection with a trace or a log, whose file could not be made; none was made.
+    /// The arguments ask for a connection with a trace or a log, whose file could not be made; no
+    /// connection was made.
     Untraced,
-    /// They ask for a server with a banner, whose file could not be read; it did not listen.
+    /// The arguments ask for a server with a banner, whose file could not be read; the server did
+    /// not listen.
     Unread,
-    /// They ask for help; it was written, or that failed.
+    /// The arguments ask for help; it was written, or that failed.
     Help(Result<(), CliFault>),
-    /// They ask for the version; it was written, or that failed.
+    /// The arguments ask for the version; it was written, or that failed.
     Version(Result<(), CliFault>),
-    /// They are not accepted, for the reason that is told; or they could not be read.
+    /// The arguments are not accepted, for the reason that is printed; or they could not be read.
     Usage(Option<String>),
-    /// Out of memory for the words.
+    /// There was no memory for the arguments.
     Memory,
 }
 
 impl Outcome {
-    /// The status that a process ends with.
+    /// Returns the status with which a process ends.
     pub fn status(&self) -> u8
         ensures { result ≡ status_of self.now }
     {

@@ -6,13 +6,14 @@ ghost use Rattle.tn_program.specs.Outlets.{HandsOn, held_by};
 use std::io;
 use std::io::{ErrorKind, Write};
 
-/// The screen of a session. Where its reader has left, as `head` does, what is still written is dropped: the
-/// screen has ended the connection then, and the session ends as by a hang-up. So of what a session's holds
-/// nothing is known beforehand; any other holds what is written to it.
+/// The screen of a session. If its reader has left, as `head` does, text that is still written is
+/// dropped: the screen has ended the connection then, and the session ends as by a hang-up. So
+/// nothing is known beforehand of what a session's screen holds; any other holds what is written to
+/// it.
 #[derive(Drop)]
 pub struct Outlet<S> {
     pub screen: S,
-    /// Whether that is no fault.
+    /// Whether the leaving of its reader is no fault.
     pub is_session: bool,
 }
 

@@ -1,4 +1,4 @@
-//! The special characters of a terminal, as the launcher tells them.
+//! The special characters of a terminal, as the launcher passes them.
 
 ghost use Rattle.std.specs.Prelude.{◌≡◌};
 ghost use Rattle.tn_program.specs.Own.{character_as, own_in};
@@ -6,11 +6,11 @@ ghost use Rattle.tn_program.specs.Own.{character_as, own_in};
 use hex::FromHex;
 use tn_connect::{EditKeys, EditorSettings, OwnCharacters, Words};
 
-/// How many bytes tell the characters of a terminal.
+/// The number of bytes that encode the characters of a terminal.
 pub const OWN_LENGTH: usize = 12;
 
-/// The characters that a text tells: two hexadecimal digits each, of INTR, QUIT, SUSP, ERASE, KILL and EOF,
-/// and `00` where there is none.
+/// Returns the characters that a text encodes: two hexadecimal digits each, of INTR, QUIT, SUSP,
+/// ERASE, KILL and EOF, and `00` if there is none.
 pub fn own_characters(text: &[u8]) -> Option<OwnCharacters>
     ensures { result ≡ own_in text.now }
 {
@@ -28,11 +28,11 @@ pub fn own_characters(text: &[u8]) -> Option<OwnCharacters>
     })
 }
 
-/// How many bytes tell how a terminal edits lines.
+/// The number of bytes that encode how a terminal edits lines.
 pub const EDITS_LENGTH: usize = 12;
 
-/// How a terminal edits lines, by a text: two hexadecimal digits each, of WERASE, REPRINT, START and STOP, `00` if there
-/// is none, and of whether IUTF8 and ECHOCTL are set.
+/// Returns how a terminal edits lines, by a text: two hexadecimal digits each, of WERASE, REPRINT,
+/// START and STOP, `00` if there is none, and of whether IUTF8 and ECHOCTL are set.
 pub fn editor_settings(text: &[u8]) -> Option<EditorSettings> {
     let bytes = <[u8; 6] as FromHex>::from_hex(text).ok()?;
     let [werase, rprnt, start, stop, iutf8, echoctl] = bytes;

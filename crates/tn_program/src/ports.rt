@@ -12,7 +12,8 @@ use tn_cli::arguments::Port;
 /// The services of this machine, one a line: a name, a port with its protocol, and other names (services(5)).
 const SERVICES: &str = "/etc/services";
 
-/// The port that is asked for. If it is of a service that this machine does not know, that is noted.
+/// Returns the port that is asked for. If it is of a service that this machine does not know, that
+/// is noted.
 pub(crate) fn port_of<H: Files<File = File>>(
     rt: &H,
     alloc: Global,
@@ -28,7 +29,7 @@ pub(crate) fn port_of<H: Files<File = File>>(
     }
 }
 
-// The port of the service of this name.
+// Returns the port of the service of this name.
 fn port_of_service<H: Files<File = File>>(
     rt: &H,
     alloc: Global,
@@ -59,7 +60,7 @@ fn read_services<H: Files<File = File>>(rt: &H, alloc: Global) -> io::Result<Vec
     Ok(services)
 }
 
-// The port that the first line with this service has.
+// Returns the port that the first line with this service has.
 fn port_among(services: &[u8], name: &str) -> Option<u16> {
     for line in services.split(|byte| *byte == b'\n') {
         if let Some(port) = port_in(line, name) {
@@ -69,7 +70,7 @@ fn port_among(services: &[u8], name: &str) -> Option<u16> {
     None
 }
 
-// The port of a line, if the line has this service, for TCP.
+// Returns the port of a line, if the line has this service, for TCP.
 fn port_in(line: &[u8], name: &str) -> Option<u16> {
     let line = str::from_utf8(line).ok()?;
     let line = match line.split_once('#') {

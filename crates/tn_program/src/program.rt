@@ -1,4 +1,4 @@
-//! The program: words and streams in, a status out.
+//! The program: arguments and streams in, a status out.
 
 ghost use Rattle.std.specs.Prelude.{◌≡◌, ◌≢◌, ℕ, List, None, Option, Some, IfErr, IfOk, IsOk, OnErr};
 ghost use Rattle.std.specs.IoError.{error_kind};
@@ -27,11 +27,12 @@ use tn_connect::{ClientContext, ConnectFault, Host, KeySource, News, connect, co
 use tn_cores::streams::Drain;
 use tn_net::network::Network;
 
-/// Runs what the words of the command line ask for, if they could be read. The program's name is the first of
-/// them; a host of the user's own file is no longer among them, but what it stands for (`tn_cli::hosts`). Returns
-/// the status to end with: 0 if that was done, and else the status of its fault (`EndsWith`). A fault is one
-/// line on `errors`, followed by what is wrong with words, or why; what cannot be written is dropped. Of
-/// streams at standard input nothing is known beforehand.
+/// Does the run for which the arguments of the command line ask, if they could be read. The
+/// program's name is the first of them; a host of the user's own file is no longer among them, but
+/// the arguments that it stands for (`tn_cli::hosts`). It returns the status to end with: 0 if that was
+/// done, and else the status of its fault (`EndsWith`). A fault is one line on `errors`, followed
+/// by what is wrong with the arguments, or why; text that cannot be written is dropped. Of streams
+/// at standard input nothing is known beforehand.
 pub fn run_words<
     H: Network + Host + Lookout + Replacing + Eprint + Files<File = File>,
     R: Read + Drop + Send + 'static,
@@ -64,8 +65,8 @@ pub fn run_words<
     status
 }
 
-/// The same without the status and the lines: returns what comes of the words, and appends the causes of a
-/// fault, a line each.
+/// Does the run for which the arguments ask, and returns its outcome, without the status and the
+/// lines. It appends the causes of a fault, a line each.
 pub fn outcome_of_words<
     H: Network + Host + Lookout + Replacing + Eprint + Files<File = File>,
     R: Read + Drop + Send + 'static,
@@ -101,7 +102,7 @@ pub fn outcome_of_words<
     }
 }
 
-// What comes of words that ask for no run: help and the version are written.
+// Returns the outcome of arguments that ask for no run: help and the version are written.
 fn outcome_of_fault<W: Write>(fault: WordsFault, writer: &mut W) -> Outcome
     ensures { ComesOfNoRun (W.contents writer.old) (W.contents writer.new) result }
 {
@@ -116,8 +117,8 @@ fn outcome_of_fault<W: Write>(fault: WordsFault, writer: &mut W) -> Outcome
     }
 }
 
-// What comes of words that could not be read: out of memory, or words that are not text, which are not
-// accepted.
+// Returns the outcome of arguments that could not be read: out of memory, or arguments that are not
+// text, which are not accepted.
 fn refusal(kind: ErrorKind) -> Outcome
     ensures memory { kind ≡ ErrorKind.OutOfMemory → result ≡ Outcome.Memory }
     ensures usage { kind ≢ ErrorKind.OutOfMemory → result ≡ Outcome.Usage None }
@@ -136,7 +137,7 @@ fn texts_of<'a>(alloc: Global, words: &'a [String]) -> Result<Vec<&'a str>, Allo
     Ok(texts)
 }
 
-// What the words ask for.
+// Returns the run for which the arguments ask.
 fn asked_of(alloc: Global, words: &[String]) -> Result<Asked, WordsFault>
     ensures { IfOk result IsWithinRanges }
 {

@@ -11,7 +11,7 @@ use std::time::Duration;
 use std::{io, thread};
 use tn_serve::Host;
 
-/// How many milliseconds lie between two looks at the counts.
+/// The number of milliseconds between two looks at the counts.
 const LOOK: u64 = 1_000;
 
 /// The thread that writes the counts to a file once a second, if they have changed, and at its end.
@@ -22,7 +22,7 @@ pub(crate) struct Publisher {
     thread: JoinHandle<()>,
 }
 
-// What the thread has.
+// The parts of the thread.
 #[derive(Drop)]
 struct Publishing<H> {
     rt: H,

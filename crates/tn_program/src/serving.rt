@@ -22,8 +22,9 @@ use tn_serve::services::{
 };
 use tn_serve::{At, Call, Finished, Host, NoteWriter, Notes, ServeFault, Served, Service, serve};
 
-/// Serves as was asked for, and writes notes to standard error: `is_journal` says that systemd's journal reads
-/// them. Each client is shown `banner` first. If it cannot listen, `causes` gets a line.
+/// Serves as was asked for, and writes notes to standard error: `is_journal` is whether systemd's
+/// journal reads them. Each client is shown `banner` first. If it cannot listen, `causes` gets a
+/// line.
 pub(crate) fn serve_asked<H>(
     rt: H,
     alloc: Global,
@@ -62,7 +63,8 @@ where
     served
 }
 
-// The thread that writes the counts, if a file for them is named. `None` if there is no memory or no thread.
+// Starts the thread that writes the counts, if a file for them is named. It returns `None` if there
+// is no memory or no thread.
 fn publishing<H: Host + Replacing, L: Log>(
     rt: H,
     alloc: Global,
@@ -118,7 +120,7 @@ where
     serve(rt, alloc, &at, serving, until, service, log, causes)
 }
 
-// Where to listen.
+// Returns the places at which to listen.
 fn places_of(
     alloc: Global,
     asked: &tn_cli::arguments::ServeWords,
@@ -132,7 +134,7 @@ fn places_of(
     }
 }
 
-// At the socket that is handed in.
+// Returns the place of the socket that is handed in.
 fn handed_place<'a>(alloc: Global, port: u16, descriptor: u16) -> Result<Vec<At<'a>>, AllocError>
     ensures { IfOk result (λ places. map place_at (vec_items places)
         ≡ places_at [] port (Some descriptor)) }
@@ -146,7 +148,7 @@ fn handed_place<'a>(alloc: Global, port: u16, descriptor: u16) -> Result<Vec<At<
     Ok(places)
 }
 
-// At each of these hosts.
+// Returns the places of these hosts.
 fn places_at(alloc: Global, hosts: &[String], port: u16) -> Result<Vec<At<'_>>, AllocError>
     ensures { IfOk result (λ places. map place_at (vec_items places)
         ≡ places_at (map string_bytes hosts.now) port None) }
@@ -162,7 +164,7 @@ fn places_at(alloc: Global, hosts: &[String], port: u16) -> Result<Vec<At<'_>>, 
     Ok(places)
 }
 
-// The file that ends the server, if one was named.
+// Returns the file that ends the server, if one was named.
 fn until_of<H: Copy + Lookout>(
     rt: H,
     alloc: Global,
@@ -187,16 +189,16 @@ pub struct Joining<H> {
     pub rt: H,
     pub host: String,
     pub port: u16,
-    /// For how many seconds a session dials it.
+    /// The number of seconds for which a session dials the service.
     pub patience: u32,
-    /// How lines go there.
+    /// The form in which lines go to the service.
     pub lines: LineFormat,
-    /// What each client is shown first.
+    /// The text that each client is shown first.
     pub banner: Option<Arc<Vec<u8>, Global>>,
 }
 
-/// Has the server note a line that may have been cut, and a service that speaks Telnet; and has what a client
-/// is shown first.
+/// A receiver that has the server note a line that may have been truncated, and a service that
+/// speaks Telnet, and that holds the text that a client is shown first.
 #[derive(Drop)]
 pub struct Noting<H> {
     rt: H,
@@ -226,7 +228,7 @@ impl<H: Wait> HearsTelnet for Noting<H> {
 }
 
 impl<H: Copy> Joining<H> {
-    // Who notes for a session's jobs.
+    // Makes the receiver of the reports of a session's jobs.
     fn noting(&self, notes: Notes) -> Result<Noting<H>, AllocError> {
         let banner = match &self.banner {
             Some(banner) => Some(Arc::try_clone(banner)?),

@@ -1,4 +1,4 @@
-//! What was asked for, as sessions over connections take it.
+//! The request of the arguments, as sessions over connections take it.
 
 ghost use Rattle.std.specs.{List.list_all, Prelude.{◌≡◌, option_map, string_bytes}};
 ghost use Rattle.tn_connect.specs.Clients.{window_of};
@@ -23,7 +23,7 @@ use tn_server::Editing;
 /// After how many connections a server without end stops: more than can ever be accepted.
 const WITHOUT_END: u64 = u64::MAX;
 
-/// How many sessions one address may have if that has no bound: as many as there may be of all.
+/// The most sessions of one address if that has no bound: as many as there may be of all.
 const ANY_NUMBER: u16 = 64;
 
 /// After how many seconds a session of a host that is not of loopback is idle.
@@ -32,7 +32,7 @@ const HOUR: u32 = 3_600;
 /// Gives each session the jobs of `tn serve`.
 #[derive(Clone, Copy, Drop)]
 pub struct Answering {
-    /// How often the job in the background ticks; there is none where it is 0.
+    /// The number of ticks of the job in the background; there is no such job if it is 0.
     pub ticks: u16,
 }
 
@@ -52,7 +52,7 @@ impl Service for Answering {
     fn ended(&mut self, _number: usize, _finished: &Finished) {}
 }
 
-// How it was asked to serve.
+// Returns the options of the server that was asked for.
 pub(crate) fn serving_of(asked: &tn_cli::arguments::ServeWords) -> Serving
     ensures sessions { result.sessions ≡ asked.now.sessions }
     ensures per_host { result.per_host
@@ -74,7 +74,7 @@ pub(crate) fn serving_of(asked: &tn_cli::arguments::ServeWords) -> Serving
     }
 }
 
-// Whether only this machine reaches a server, as far as its words tell.
+// Returns whether only this machine reaches a server, as far as its arguments show.
 fn is_local(asked: &tn_cli::arguments::ServeWords) -> bool
     ensures { result ≡ is_local asked.now }
 {
@@ -89,8 +89,8 @@ fn are_loopback(hosts: &[String]) -> bool
     hosts.iter().all(|host| is_loopback(host))
 }
 
-// Whether a host is of loopback, by its text, or a path of this machine. A name that only resolves to such an
-// address is none.
+// Returns whether a host is of loopback, by its text, or a path of this machine. A name that only
+// resolves to such an address is none.
 fn is_loopback(host: &String) -> bool
     ensures { result ≡ is_loopback (string_bytes host.now) }
 {
@@ -98,7 +98,7 @@ fn is_loopback(host: &String) -> bool
     host.starts_with("127.") || host == "::1" || host == "localhost" || names_path(host)
 }
 
-// How many sessions one address may have.
+// Returns the most sessions of one address.
 fn per_host_of(given: Option<u16>, loopback: bool, sessions: u16) -> u16
     ensures { result ≡ per_host_as given loopback sessions }
 {
@@ -124,7 +124,7 @@ fn half_of(sessions: u16) -> u16
     if sessions == 1 { 1 } else { sessions / 2 }
 }
 
-// After how many seconds a session is idle.
+// Returns the number of seconds after which a session is idle.
 fn idle_of(given: Option<u32>, loopback: bool) -> u32
     ensures { result ≡ idle_as given loopback }
 {
@@ -135,7 +135,7 @@ fn idle_of(given: Option<u32>, loopback: bool) -> u32
     }
 }
 
-// How the notes look.
+// Returns the form of the notes.
 pub(crate) fn note_style_of(asked: &tn_cli::arguments::ServeWords, is_journal: bool) -> NoteStyle {
     let format = if asked.logfmt {
         NoteFormat::Logfmt
@@ -145,7 +145,8 @@ pub(crate) fn note_style_of(asked: &tn_cli::arguments::ServeWords, is_journal: b
     NoteStyle { format, is_journal }
 }
 
-// What is noted: with `--verbose` each event, else those that an operator has to see.
+// Returns the level of what is noted: with `--verbose` each event, else those that an operator has
+// to see.
 pub(crate) fn note_level_of(asked: &tn_cli::arguments::ServeWords) -> Level {
     if asked.verbose {
         Level::Info
@@ -154,7 +155,7 @@ pub(crate) fn note_level_of(asked: &tn_cli::arguments::ServeWords) -> Level {
     }
 }
 
-// After how many connections it ends.
+// Returns the number of connections after which the server ends.
 fn count_of(asked: Option<u32>) -> u64
     ensures { result ≡ count_as asked }
 {
@@ -164,14 +165,14 @@ fn count_of(asked: Option<u32>) -> u64
     }
 }
 
-// The jobs that were asked for, where each session has its own.
+// Returns the maker of the jobs that were asked for, if each session has its own.
 pub(crate) fn answering_of(asked: &tn_cli::arguments::ServeWords) -> Answering
     ensures { result.ticks ≡ asked.now.ticks }
 {
     Answering { ticks: asked.ticks }
 }
 
-// How lines go to the service that was asked for.
+// Returns the form in which lines go to the service that was asked for.
 pub(crate) fn lines_of(asked: &tn_cli::arguments::ServeWords) -> LineFormat
     ensures { result ≡ lines_as asked.now }
 {
@@ -183,7 +184,7 @@ pub(crate) fn lines_of(asked: &tn_cli::arguments::ServeWords) -> LineFormat
     }
 }
 
-// What is the same of all sessions that were asked for.
+// Returns the options that all sessions of the request share.
 pub(crate) fn options_of(asked: &tn_cli::arguments::ServeWords) -> SessionOptions
     ensures { result ≡ options_as asked.now }
 {
@@ -234,7 +235,7 @@ pub(crate) fn connecting_of(
     }
 }
 
-// How it was asked to talk to a service that takes lines.
+// Returns the options of the talk that was asked for, with a service that takes lines.
 pub(crate) fn plain_of(
     asked: &tn_cli::arguments::ConnectWords,
     port: u16,
@@ -265,7 +266,7 @@ pub(crate) fn plain_of(
     }
 }
 
-// Where the keys come from, and by whose characters those of a terminal are taken.
+// Returns the source of the keys, and by whose characters those of a terminal are taken.
 fn origin_of(characters: Characters, origin: KeySource) -> KeySource
     ensures { result ≡ origin_as characters origin }
 {
@@ -277,8 +278,8 @@ fn origin_of(characters: Characters, origin: KeySource) -> KeySource
     }
 }
 
-// How lines are edited at a terminal with these settings. With the standard characters it has no editing keys, and none
-// that stops the screen.
+// Returns how lines are edited at a terminal with these settings. With the standard characters it
+// has no editing keys, and none that stops the screen.
 fn editor_of(asked: &tn_cli::arguments::ConnectWords, editor: EditorSettings) -> EditorSettings {
     let (keys, start, stop) = match asked.characters {
         Characters::Own => (editor.keys, editor.start, editor.stop),
@@ -302,7 +303,7 @@ fn plain_keys(words: Words) -> EditKeys {
     }
 }
 
-// How they are edited without Telnet. The terminal itself stops its screen then.
+// Returns how lines are edited without Telnet. The terminal itself stops its screen then.
 fn plain_editor_of(
     asked: &tn_cli::arguments::ConnectWords,
     editor: EditorSettings,
@@ -314,7 +315,7 @@ fn plain_editor_of(
     }
 }
 
-// How long a line may be that is edited while LINEMODE is off, if any is.
+// Returns the most bytes of a line that is edited while LINEMODE is off, if any is.
 fn line_mode_of(mode: Mode, limit: Limit) -> Option<Limit>
     ensures { result ≡ line_mode_as mode limit }
 {

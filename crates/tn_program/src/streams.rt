@@ -1,4 +1,4 @@
-//! Where a reader's bytes come from, and whom they are for.
+//! The streams of a process.
 
 use std::alloc::Global;
 use std::fs::File;
@@ -7,9 +7,9 @@ use std::io::Read;
 use std::sync::Arc;
 use tn_connect::{EditorSettings, KeySource, Link};
 
-/// A reader, where its bytes come from, what tells the sizes of the window in which they are typed, what is
-/// told once the connection that they are for stands, the terminal that they are typed at, and that
-/// connection, as the screen has it.
+/// A reader, the source of its bytes, the pipe that brings the sizes of the window in which they
+/// are typed, the pipe that gets a line once the connection stands, the terminal at which they are
+/// typed, and that connection, as the screen has it.
 #[derive(Drop)]
 pub struct Streams<R> {
     pub origin: KeySource,
@@ -17,7 +17,7 @@ pub struct Streams<R> {
     pub sizes: Option<File>,
     pub stands: Option<File>,
     pub terminal: Option<File>,
-    /// How lines are edited at that terminal.
+    /// The settings of line editing at that terminal.
     pub editor: EditorSettings,
     /// Standard error goes to systemd's journal.
     pub is_journal: bool,

@@ -14,7 +14,7 @@ pub trait Lookout {
     // a file was seen at this path
     ghost sees: { Self → List ℕ → Type 0 };
 
-    /// Whether a file is at this path. Where that can't be told, none is.
+    /// Returns whether a file is at this path. If that cannot be found out, none is.
     fn has_file(&self, path: &str) -> bool
         ensures { IsTrue result → sees self.now path.now };
 }

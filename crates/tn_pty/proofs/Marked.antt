@@ -7,7 +7,7 @@ use Rattle.memchr.specs.Find.{is_byte, is_byte3, Passes, Nowhere}
 use Rattle.tn_discipline.specs.declared.echo.Symbol.{Symbol, TheVariants.{Byte, Newline}}
 use Rattle.tn_pty.specs.Runs.{shown_byte, ends_run, leading_run, leading_bytes, feeds, marks_after, marked_symbols}
 
--- as many symbols as bytes
+-- a queue has as many symbols as bytes
 pub length-marked : (bytes : List ℕ) (marks : List Bool) → length (marked_symbols bytes marks) ≡ length bytes
 length-marked [] marks = refl
 length-marked (b ∷ bs) marks = ap suc (length-marked bs (marks_after b marks))
@@ -28,7 +28,7 @@ feeds-append (x ∷ xs) ys =
       | inr t ↦ rw t (feeds-append xs ys)
     ]
 
--- of the first bytes, of some behind them, and of the others
+-- the symbols of the first bytes and of some after them add up
 pub feeds_parts : (i n : ℕ) (bytes : List ℕ) → feeds (take (i + n) bytes) ≡ feeds (take i bytes) + feeds (take n (drop i bytes))
 feeds_parts i n bytes = ap feeds (take-add i n bytes) ∙ feeds-append (take i bytes) (take n (drop i bytes))
 
@@ -44,7 +44,7 @@ feeds_nowhere (b ∷ bs) (suc n) within nowhere =
     rw t (feeds_nowhere bs n (omega (arith, within)) (λ k low high. nowhere (suc k) (omega arith) (omega (arith, high))))
 
 module _ (cs : List ℕ) (ns : List Bool) where
-  -- what stands behind bytes that have a mark for each line feed
+  -- the symbols after bytes that have a mark for each line feed
   pub marked-append : (bs : List ℕ) (ms : List Bool) → length ms ≡ feeds bs
       → marked_symbols (bs ++ cs) (ms ++ ns) ≡ marked_symbols bs ms ++ marked_symbols cs ns
   marked-append [] [] e = refl
@@ -145,7 +145,7 @@ module _ (a b : ℕ) where
         | inr t ↦ rw t (omega (arith, leading-le xs))
       ]
 
-  -- a run that ends within the bytes goes no further, and one that doesn't goes on behind them
+  -- a run that ends within the bytes goes no further, and one that does not goes on after them
   pub leading_within : (xs ys : List ℕ) → length (leading_bytes a b xs) < length xs → leading_bytes a b (xs ++ ys) ≡ leading_bytes a b xs
   leading_within [] ys lt = absurd (omega (arith, lt))
   leading_within (x ∷ xs) ys lt =
@@ -186,7 +186,7 @@ drop-one zero [] = refl
 drop-one (suc n) [] = refl
 drop-one n (m ∷ ms) = refl
 
--- the symbols behind them are those of the other bytes, with the marks that are left
+-- the symbols after them are those of the other bytes, with the marks that are left
 pub drop-marked : (n : ℕ) (bytes : List ℕ) (marks : List Bool) →
     drop n (marked_symbols bytes marks) ≡ marked_symbols (drop n bytes) (drop (feeds (take n bytes)) marks)
 drop-marked zero bytes marks = refl
@@ -197,7 +197,7 @@ drop-marked (suc n) (b ∷ bs) marks =
       | inr t ↦ rw t (drop-marked n bs marks)
     ]
 
--- bytes behind others
+-- bytes after others
 pub marked-both : (xs ys : List ℕ) (marks : List Bool) → marked_symbols (xs ++ ys) marks ≡ marked_symbols xs marks ++ marked_symbols ys (drop (feeds xs) marks)
 marked-both [] ys marks = refl
 marked-both (x ∷ xs) ys marks =
@@ -229,7 +229,7 @@ marks_more bytes i marks lt =
     marks_drop (get_or bytes i 0) (feeds (take i bytes)) marks
     ∙ ap (λ n. drop n marks) (sym (feeds-append (take i bytes) (get_or bytes i 0 ∷ [])) ∙ ap feeds (sym (take_more bytes i 0 lt)))
 
--- the first of two lists, of which one stands behind the other
+-- the first of two lists that follow one another
 take_both : (n : ℕ) (xs ys : List ℕ) → take n (xs ++ ys) ≡ take n xs ++ take (n - length xs) ys
 take_both zero [] ys = refl
 take_both (suc n) [] ys = let same : suc n ≡ suc n - 0 = omega arith in ap (λ k. take k ys) same
@@ -241,7 +241,7 @@ take_both (suc n) (x ∷ xs) ys =
 take_least : (n : ℕ) (xs : List ℕ) → take (min (length xs) n) xs ≡ take n xs
 take_least n xs = let same : min (length xs) n ≡ min n (length xs) = omega arith in ap (λ k. take k xs) same ∙ take_min n xs
 
--- the same as a loop over slices takes them
+-- the first of two lists, as a loop over slices takes them
 pub taken_both : (n : ℕ) (xs ys : List ℕ) → take (min (length xs) n) xs ++ take (n - min (length xs) n) ys ≡ take n (xs ++ ys)
 taken_both n xs ys =
     let left : n - min (length xs) n ≡ n - length xs = omega arith in
@@ -260,7 +260,7 @@ cut n k m front back is left =
     ∙ ap (λ i. take (min (length front) n) front ++ take i back) more
     ∙ taken_both n front back
 
--- their symbols, and the marks that are left
+-- the symbols of the first n bytes, and the marks that are left
 pub symbols_cut : (n k m : ℕ) (front back bytes : List ℕ) (marks : List Bool) → k ≡ min (length front) n → m ≡ n - length (take k front) → front ++ back ≡ bytes
     → marked_symbols (take k front) marks ++ marked_symbols (take m back) (drop (feeds (take k front)) marks) ≡ take n (marked_symbols bytes marks)
 symbols_cut n k m front back bytes marks is left whole =
@@ -290,7 +290,7 @@ module _ (a b max k count : ℕ) (front back : List ℕ) (is : k ≡ min (length
       ∙ ap (leading_bytes a b) (cut max k m front back is refl)
       ∙ leading-take a b max (front ++ back)
 
-  -- and one that goes on in the second
+  -- a run that goes on in the second slice
   pub copied_beyond : (m : ℕ) → m ≡ min (length back) (max - count) → length (take k front) ≤ count
       → leading_bytes a b (take k front) ++ leading_bytes a b (take m back) ≡ take max (leading_bytes a b (front ++ back))
   copied_beyond m rest le =
@@ -306,7 +306,7 @@ module _ (a b max k count : ℕ) (front back : List ℕ) (is : k ≡ min (length
 pub take_counted : (max count : ℕ) (xs : List ℕ) → count ≡ min max (length xs) → take max xs ≡ take count xs
 take_counted max count xs is = sym (ap (λ i. take i xs) is ∙ take_min max xs)
 
--- a byte behind the others, and its mark
+-- a byte after the others, and its mark
 pub feed_count : (bs : List ℕ) (ms : List Bool) (newline : Bool) (b : ℕ) → b ≡ 10 → length ms ≡ feeds bs → length (ms ++ newline ∷ []) ≡ feeds (bs ++ b ∷ [])
 feed_count bs ms newline b is e = rw is (omega (arith, e, feeds-append bs (10 ∷ []), length-append ms (newline ∷ [])))
 
@@ -317,7 +317,7 @@ feed_marked bs ms newline b is e = rw is (marked-append (10 ∷ []) (newline ∷
 pub other_count : (bs : List ℕ) (ms : List Bool) (b : ℕ) → (b ≡ 10 → ⊥) → length ms ≡ feeds bs → length ms ≡ feeds (bs ++ b ∷ [])
 other_count bs ms b other e = omega (arith, e, feeds-append bs (b ∷ []), feeds_other b other)
 
--- what a push gives where there is room
+-- the fact of a push if there is room
 pub pushed : {T E : Type 0} (r : Result T E) {P Room : Type 0} → (IsOk r ↔ Room) → OnOk r P → Room → P
 pushed (Ok x) variant gives room = gives
 pushed (Err e) variant gives room = let ok = variant.1 room in cc

@@ -11,7 +11,7 @@ le_true a b h = grind arith
 le_false : (a b : ℕ) → (a ≤ b → ⊥) → nat_le a b ≡ false
 le_false a b h = grind arith
 
--- a symbol that fits, and one that doesn't
+-- a symbol that fits, and one that does not
 pub one_fits : (queue : List Symbol) (x : Symbol) → length queue < 4096 → queue_with queue (x ∷ []) ≡ queue ++ x ∷ []
 one_fits queue x room = ap (λ (b : Bool). if b then queue ++ x ∷ [] else queue) (le_true (length queue + 1) 4096 (omega (arith, room)))
 
@@ -33,7 +33,7 @@ each_more f start bytes i queue new within before is =
     ∙ sym (each_push start (map f (take i bytes)) (f byte))
     ∙ ap (queue_with_each start) (sym (map-append f (take i bytes) (byte ∷ [])) ∙ ap (map f) (sym (take_more bytes i 0 within)))
 
--- of symbols that are put one after another the first fit, as many as there is room for
+-- the first of the symbols that are put one after another fit, as many as there is room for
 each_fits : (xs : List Symbol) (queue : List Symbol) (room : ℕ) → length queue + room ≡ 4096 → queue_with_each queue xs ≡ queue ++ take room xs
 each_fits [] queue zero e = sym (append-nil queue)
 each_fits [] queue (suc room) e = sym (append-nil queue)

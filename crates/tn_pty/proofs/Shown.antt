@@ -26,7 +26,7 @@ present_some symbols i x within is =
     ∙ present-append (take i symbols) (get_or symbols i None ∷ [])
     ∙ ap (λ o. symbols_in (take i symbols) ++ symbols_in (o ∷ [])) is
 
--- and at one that isn't
+-- a step of a loop over symbols, at one that is not there
 pub present_none : (symbols : List (Option Symbol)) (i : ℕ) → i < length symbols → get_or symbols i None ≡ None
     → symbols_in (take (i + 1) symbols) ≡ symbols_in (take i symbols)
 present_none symbols i within is =

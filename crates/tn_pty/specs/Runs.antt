@@ -4,7 +4,7 @@ use Rattle.std.specs.Prelude.{ℕ, suc, ◌==◌, ◌&&◌, ◌||◌, Bool, fals
 use Rattle.std.specs.Prelude.{if◌then◌else◌}
 use Rattle.tn_discipline.specs.declared.echo.Symbol.{Symbol, TheVariants.{Byte, Newline}}
 
--- how a byte is shown where a line feed is a new line, and where it is not
+-- the symbol that shows a byte, by whether a line feed is a new line
 abbrev pub shown_byte : Bool → ℕ → Symbol
 shown_byte newline byte = if byte == 10 && newline then Newline else Byte byte
 
@@ -18,16 +18,16 @@ leading_run a b [] = []
 leading_run a b (Newline ∷ rest) = []
 leading_run a b (Byte byte ∷ rest) = if ends_run a b byte then [] else byte ∷ leading_run a b rest
 
--- how many of the bytes are line feeds
+-- the number of the bytes that are line feeds
 abbrev pub feeds : List ℕ → ℕ
 feeds [] = 0
 feeds (byte ∷ bytes) = if byte == 10 then suc (feeds bytes) else feeds bytes
 
--- the marks that are left behind a byte: a line feed takes one
+-- the marks that are left after a byte: a line feed takes one
 abbrev pub marks_after : ℕ → List Bool → List Bool
 marks_after byte marks = if byte == 10 then drop 1 marks else marks
 
--- the symbols that these bytes stand for: each line feed is a new line where its mark says so
+-- the symbols that these bytes stand for: each line feed is a new line if its mark says so
 abbrev pub marked_symbols : List ℕ → List Bool → List Symbol
 marked_symbols [] marks = []
 marked_symbols (byte ∷ bytes) marks =

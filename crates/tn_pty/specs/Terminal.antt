@@ -16,7 +16,8 @@ pub record Terminal : Type 0 where
   pub height : ℕ
   pub closed : Bool
 
--- a terminal at which nothing was typed, a line of which has at most so many bytes with its closing byte
+-- a terminal at which nothing was typed, a line of which has at most this number of bytes with its closing
+-- byte
 abbrev pub new_terminal : Settings → ℕ → Terminal
 new_terminal settings limit =
     record {
@@ -33,20 +34,20 @@ new_terminal settings limit =
 abbrev pub shut_terminal : Terminal → Terminal
 shut_terminal old = record old { closed = true }
 
--- how many symbols wait at most
+-- the most symbols that wait
 abbrev pub queue_symbols : ℕ
 queue_symbols = 4096
 
--- how many entries wait at most
+-- the most entries that wait
 abbrev pub max_waiting : ℕ
 max_waiting = 1024
 
--- the queue with these symbols behind it where all of them fit, else as it is
+-- the queue followed by these symbols if all of them fit, else as it is
 abbrev pub queue_with : List Symbol → List Symbol → List Symbol
 queue_with queue symbols =
     if nat_le (length queue + length symbols) queue_symbols then queue ++ symbols else queue
 
--- the queue with each of these symbols behind it that fits, one after another
+-- the queue followed by each of these symbols that fits, one after another
 abbrev pub queue_with_each : List Symbol → List Symbol → List Symbol
 queue_with_each queue [] = queue
 queue_with_each queue (symbol ∷ symbols) = queue_with_each (queue_with queue (symbol ∷ [])) symbols
@@ -55,10 +56,11 @@ queue_with_each queue (symbol ∷ symbols) = queue_with_each (queue_with queue (
 abbrev pub output_symbol : Flags → ℕ → Symbol
 output_symbol flags byte = if byte == 10 && (flags.opost && flags.onlcr) then Newline else Byte byte
 
+-- the symbols that these bytes of output show
 abbrev pub output_symbols : Flags → List ℕ → List Symbol
 output_symbols flags bytes = map (output_symbol flags) bytes
 
--- how many of these bytes of output fit behind the queue
+-- the number of these bytes of output that fit after the queue
 abbrev pub fitting_count : List Symbol → List ℕ → ℕ
 fitting_count queue bytes = min (length bytes) (queue_symbols - length queue)
 

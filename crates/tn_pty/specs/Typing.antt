@@ -1,4 +1,4 @@
--- What keys and commands do to a terminal.
+-- The effects of keys and commands on a terminal.
 use Rattle.std.specs.Prelude.{◌≡◌, ℕ, Bool, Option, Some, None, List, [], ◌∷◌, ◌++◌, map, if◌then◌else◌}
 use Rattle.tn_codes.specs.declared.codes.Command.{Command}
 use Rattle.tn_codes.specs.declared.codes.Command.TheVariants as command
@@ -21,7 +21,7 @@ symbols_in [] = []
 symbols_in (None ∷ rest) = symbols_in rest
 symbols_in (Some symbol ∷ rest) = symbol ∷ symbols_in rest
 
--- the echo of a key that comes at this line, where there is one
+-- the echo of a key that comes at this line, if there is one
 abbrev pub echo_symbols : Bool → Settings → ℕ → HalfLine → List Symbol
 echo_symbols echo settings key line =
     let r = role_of_key settings key in
@@ -41,7 +41,7 @@ abbrev pub role_of_input : Input → Settings → ℕ → Role
 role_of_input (Keys echo) settings = role_of_key settings
 role_of_input Edited settings = literal_role settings.chars
 
--- what is shown of a byte that comes at this line: nothing of an edited one
+-- the symbols that are shown of a byte that comes at this line: none of an edited one
 abbrev pub input_symbols : Input → Settings → ℕ → HalfLine → List Symbol
 input_symbols (Keys echo) settings key line = echo_symbols echo settings key line
 input_symbols Edited settings byte line = []
@@ -65,8 +65,8 @@ input_gains input old bytes = gains_from old.line (map (role_of_input input old.
 abbrev pub JoinsEdited : Characters → ℕ → Type 0
 JoinsEdited chars byte = literal_role chars byte ≡ role.Ordinary byte
 
--- RFC 854 and RFC 1184, section 2: the key that a command stands for. BRK is an interrupt here; commands that
--- stand for none change no line
+-- RFC 854 and RFC 1184, section 2: the key that a command stands for. This project takes BRK as an interrupt;
+-- commands that stand for none change no line
 abbrev pub command_role : Command → Role
 command_role command.Eof = role.Eof
 command_role command.Susp = role.Signal Tstp

@@ -1,6 +1,8 @@
 //! A pair: a terminal between a master, which types keys and pulls what is shown, and a slave,
 //! which reads entries and writes output (pty(7)).
 //!
+//! Begin with `Pair`, and with `Symbol` of `tn_discipline`, which is what it shows.
+//!
 //! ```
 //! let mut pair = Pair::new(alloc, Settings::standard(), Limit::standard())?;
 //! pair.raw_key(0x61, true)?; // typed, and echoed

@@ -27,13 +27,13 @@ use tn_discipline::{
     echo_of_role, role_of_literal,
 };
 
-/// How many entries may wait.
+/// The most entries that may wait.
 const MAX_WAITING: usize = 1024;
 
-/// From how many on keys that are shown as they are go into the queue at once.
+/// The least number of keys that are shown as they are at which they go into the queue at once.
 const SHORT_RUN: usize = 8;
 
-/// The answer to AYT.
+/// The symbols that answer AYT.
 const YES: [Option<Symbol>; 6] = [
     Some(Symbol::Byte(b'[')),
     Some(Symbol::Byte(b'Y')),
@@ -43,14 +43,14 @@ const YES: [Option<Symbol>; 6] = [
     Some(Symbol::Newline),
 ];
 
-/// Why a key or a command had no effect. After any of these the pair is closed: it takes no more keys
-/// and no commands, and all that waits can still be taken and pulled.
+/// The reason why a key or a command had no effect. After any of these the pair is closed: it takes
+/// no more keys and no commands, and all that waits can still be taken and pulled.
 #[derive(Clone, Copy, Debug, PartialEq, Eq, Error)]
 pub enum PtyFault {
     /// The key would make an entry while 1,024 wait.
     #[error("too many entries are waiting")]
     TooFarAhead,
-    /// No memory was found for a text.
+    /// There was no memory for a text.
     #[error("out of memory")]
     Memory,
     /// The pair was closed before the key came.
@@ -58,13 +58,13 @@ pub enum PtyFault {
     Closed,
 }
 
-/// How bytes come to the master: the contracts of `Pair::type_run` and `Pair::edited_run` say by it what both
-/// have in common.
+/// The form in which bytes come to the master. The contracts of `Pair::type_run` and
+/// `Pair::edited_run` share it.
 #[derive(Clone, Copy, PartialEq, Eq)]
 pub enum Input {
-    /// As keys, and whether they are shown.
+    /// The bytes are keys; the flag is whether they are shown.
     Keys(bool),
-    /// As bytes of a line that was edited before.
+    /// The bytes are of a line that was edited before.
     Edited,
 }
 
@@ -101,8 +101,13 @@ impl Model for Pair {
 }
 
 impl Pair {
-    /// A pair at which nothing was typed, of size (0, 0), a line of which has at most `limit` bytes with
-    /// its closing byte. It makes the room for all that it will ever hold but the texts.
+    /// Makes a pair at which nothing was typed, of size (0, 0), whose lines have at most `limit`
+    /// bytes with their closing byte. It takes the room for all that it will ever hold, except
+    /// texts.
+    ///
+    /// # Errors
+    ///
+    /// - `AllocError`: there is no memory for the line, the entries or the queue.
     pub fn new(alloc: Global, settings: Settings, limit: Limit) -> Result<Pair, AllocError>
         ensures { IfOk result (λ pair. pair ≡ new_terminal settings limit) }
     {
@@ -117,12 +122,20 @@ impl Pair {
         })
     }
 
-    /// The master types a key, which is shown where `echo` is true. An echo that doesn't fit whole
-    /// into the queue is dropped whole. `TooFarAhead` where the key makes an entry and 1,024 wait, `Memory`
-    /// for the text that it gives: it has no effect then, and the pair is closed, which is `Closed` from then
-    /// on. All but typing goes on.
+    /// Types a key at the master, which is shown if `echo` is true. An echo that does not fit whole
+    /// into the queue is dropped whole.
+    ///
+    /// # Errors
+    ///
+    /// After an error the key had no effect, and the pair is closed: it takes no more keys and
+    /// commands, and all else goes on.
+    ///
+    /// - `TooFarAhead`: the key makes an entry, and 1,024 wait.
+    /// - `Memory`: there is no memory for the text that the key gives.
+    /// - `Closed`: the pair was closed before.
     pub fn raw_key(&mut self, key: u8, echo: bool) -> Result<(), PtyFault>
-        // Whatever keys led to this half line, the entries gain what this key adds.
+        // After any keys that led to this half-typed line, the entries gain those that this key
+        // adds.
         ensures advances { let roles = roles_of self.old.settings (key ∷ []) in
             let gain = gain_of self.old.line (role_of_key self.old.settings key) in
             OnOk result (Advances self.old.line roles gain self.new.line) }
@@ -150,11 +163,16 @@ impl Pair {
         }
     }
 
-    /// The master types keys, one after another, which are shown where `echo` is true: each as `raw_key`
-    /// does it, and bytes that join the line as they are in runs. After any fault the keys before the
-    /// one that was refused were typed, and the pair is closed.
+    /// Types keys at the master, one after another, which are shown if `echo` is true: each as
+    /// `raw_key` does it, and bytes that join the line as they are in runs.
+    ///
+    /// # Errors
+    ///
+    /// After an error the keys before the refused one were typed, and the pair is closed.
+    /// `TooFarAhead`, `Memory` and `Closed` have the conditions of `raw_key`.
     pub fn type_run(&mut self, keys: &[u8], echo: bool) -> Result<(), PtyFault>
-        // Whatever keys led to this half line, the entries gain what these keys add.
+        // After any keys that led to this half-typed line, the entries gain those that these keys
+        // add.
         ensures advances { let gain = input_gains (Keys echo) self.old keys.now in
             OnOk result (Advances self.old.line (roles_of self.old.settings keys.now) gain self.new.line) }
         ensures entries { let gain = input_gains (Keys echo) self.old keys.now in
@@ -166,8 +184,12 @@ impl Pair {
         self.take_each(keys, Input::Keys(echo))
     }
 
-    /// The master types a byte of a line that was edited before it came. Nothing is shown. It is refused as
-    /// `raw_key` is.
+    /// Types a byte of a line that was edited before it came, at the master. Nothing is shown.
+    ///
+    /// # Errors
+    ///
+    /// `TooFarAhead`, `Memory` and `Closed` have the conditions of `raw_key`: the byte had no
+    /// effect, and the pair is closed.
     pub fn edited_byte(&mut self, byte: u8) -> Result<(), PtyFault>
         ensures advances { let role = literal_role self.old.settings.chars byte in
             OnOk result (Advances self.old.line (role ∷ []) (gain_of self.old.line role) self.new.line) }
@@ -190,11 +212,16 @@ impl Pair {
         }
     }
 
-    /// The master types bytes of lines that were edited before they came, one after another: each as
-    /// `edited_byte` does it, and bytes that join the line in runs. After any fault the bytes before the one
-    /// that was refused were typed, and the pair is closed.
+    /// Types bytes of lines that were edited before they came, at the master, one after another:
+    /// each as `edited_byte` does it, and bytes that join the line in runs.
+    ///
+    /// # Errors
+    ///
+    /// After an error the bytes before the refused one were typed, and the pair is closed.
+    /// `TooFarAhead`, `Memory` and `Closed` have the conditions of `raw_key`.
     pub fn edited_run(&mut self, bytes: &[u8]) -> Result<(), PtyFault>
-        // Whatever keys led to this half line, the entries gain what these bytes add.
+        // After any keys that led to this half-typed line, the entries gain those that these bytes
+        // add.
         ensures advances { let roles = map (literal_role self.old.settings.chars) bytes.now in
             OnOk result (Advances self.old.line roles (input_gains Edited self.old bytes.now) self.new.line) }
         ensures entries { let gain = input_gains Edited self.old bytes.now in
@@ -206,8 +233,13 @@ impl Pair {
         self.take_each(bytes, Input::Edited)
     }
 
-    /// The master gives a command. AYT is answered where the answer fits whole into the queue, and
-    /// nothing else is shown. It is refused as `raw_key` is.
+    /// Gives a command at the master. AYT is answered if the answer fits whole into the queue, and
+    /// nothing else is shown.
+    ///
+    /// # Errors
+    ///
+    /// `TooFarAhead`, `Memory` and `Closed` have the conditions of `raw_key`: the command had no
+    /// effect, and the pair is closed.
     pub fn command(&mut self, command: Command) -> Result<(), PtyFault>
         ensures advances { let role = command_role command in
             OnOk result
@@ -231,9 +263,13 @@ impl Pair {
         }
     }
 
-    /// The master moves the first symbols into `out`, at most `max`, and returns how many they are: from 0
-    /// to 4,096. Memory is wanted where `out` has no room for them, and so never for none; after a
-    /// refusal nothing has moved.
+    /// Moves the first symbols into `out`, at most `max`, and returns how many they are, from 0 to
+    /// 4,096.
+    ///
+    /// # Errors
+    ///
+    /// - `AllocError`: `out` has no room for the symbols, and there is no memory for more; nothing
+    ///   has moved. No symbols take no memory.
     pub fn pull(&mut self, max: usize, out: &mut Vec<Symbol>) -> Result<usize, AllocError>
         ensures count { IfOk result (λ n. n ≡ min max (length self.old.queue)) }
         ensures out { IfOk result (λ n. out.new.items ≡ out.old.items ++ take n self.old.queue) }
@@ -248,7 +284,7 @@ impl Pair {
         Ok(count)
     }
 
-    /// The master takes the first symbol; `None` where none waits to be pulled.
+    /// Takes the first symbol that is shown; `None` if none waits to be pulled.
     pub fn pull_symbol(&mut self) -> Option<Symbol>
         ensures first { result ≡ slice_get self.old.queue 0 }
         ensures pair { self.new ≡ record self.old { queue = drop 1 self.old.queue } }
@@ -256,8 +292,9 @@ impl Pair {
         self.queue.pop()
     }
 
-    /// The master moves the leading symbols that are bytes into `out`, as bytes: at most `max` of them, up to
-    /// a line feed or one of the two bytes `ends`. It returns how many they are. `out` has room for as many.
+    /// Moves the leading symbols that are bytes into `out`, as bytes: at most `max` of them, up to
+    /// a line feed or one of the two bytes `ends`. It returns how many they are. `out` needs room
+    /// for as many.
     pub fn pull_run(&mut self, max: usize, ends: (u8, u8), out: &mut Vec<u8>) -> usize
         requires { vec_len out.old + min max (length self.old.queue) ≤ vec_capacity out.old }
         ensures count { result ≡ min max (length (leading_run ends.0 ends.1 self.old.queue)) }
@@ -270,7 +307,7 @@ impl Pair {
         self.queue.pull_run(max, ends, out)
     }
 
-    /// How many symbols wait to be pulled.
+    /// Returns the number of symbols that wait to be pulled, from 0 to 4,096.
     pub fn queued(&self) -> usize
         ensures value { result ≡ length self.now.queue }
         ensures within { result ≤ queue_symbols }
@@ -278,7 +315,7 @@ impl Pair {
         self.queue.len()
     }
 
-    /// The master tells the size of its window, in columns and rows.
+    /// Sets the size of the master's window, in columns and rows.
     pub fn resize(&mut self, width: u16, height: u16)
         ensures { self.new ≡ record self.old { width = width; height = height } }
     {
@@ -286,14 +323,14 @@ impl Pair {
         self.height = height;
     }
 
-    /// The half line that was typed.
+    /// Returns the half-typed line.
     pub fn half(&self) -> &[u8]
         ensures { result.now ≡ self.now.line.held }
     {
         self.line.held()
     }
 
-    /// The slave takes the first of the entries that wait.
+    /// Takes the first of the entries that wait, for the slave; `None` if none waits.
     pub fn take(&mut self) -> Option<Entry>
         ensures none { IfNone result ((self.old.entries ≡ []) × (self.new ≡ self.old)) }
         ensures some { IfSome result (λ entry. self.old.entries ≡ entry ∷ self.new.entries) }
@@ -302,14 +339,14 @@ impl Pair {
         self.entries.pop_front()
     }
 
-    /// An entry that waits, counted from the first, which is 0.
+    /// Returns an entry that waits, counted from the first, which is 0; `None` if fewer wait.
     pub fn waiting(&self, index: usize) -> Option<&Entry>
         ensures { option_copied result ≡ slice_get self.now.entries index }
     {
         self.entries.get(index)
     }
 
-    /// How many entries wait.
+    /// Returns the number of entries that wait, from 0 to 1,024.
     pub fn waiting_count(&self) -> usize
         ensures value { result ≡ length self.now.entries }
         ensures within { result ≤ max_waiting }
@@ -317,7 +354,7 @@ impl Pair {
         self.entries.len()
     }
 
-    /// The first signal among the entries that wait.
+    /// Returns the first signal among the entries that wait.
     pub fn signal_waiting(&self) -> Option<Sig>
         ensures { result ≡ first_signal self.now.entries }
     {
@@ -329,7 +366,8 @@ impl Pair {
         None
     }
 
-    /// The slave writes output. Its first bytes are taken, as many as symbols fit.
+    /// Writes output of the slave, and returns the number of bytes that were taken: the first ones,
+    /// as many as have room in the queue.
     pub fn write(&mut self, bytes: &[u8]) -> usize
         ensures count { result ≡ fitting_count self.old.queue bytes.now }
         ensures pair { let shown = output_symbols self.old.settings.flags (take result bytes.now) in
@@ -341,21 +379,21 @@ impl Pair {
         count
     }
 
-    /// The size of the window, in columns and rows, as it was told last.
+    /// Returns the size of the window, in columns and rows, as it was set last.
     pub fn size(&self) -> (u16, u16)
         ensures { result ≡ (self.now.width, self.now.height) }
     {
         (self.width, self.height)
     }
 
-    /// The settings, as they were set last.
+    /// Returns the settings, as they were set last.
     pub fn settings(&self) -> Settings
         ensures { result ≡ self.now.settings }
     {
         self.roles.settings()
     }
 
-    /// Sets the flags for all that is typed and written from now on.
+    /// Sets the flags for all that is typed and written after this call.
     pub fn set_flags(&mut self, flags: Flags)
         ensures { let settings = record self.old.settings { flags = flags } in
             self.new ≡ record self.old { settings = settings } }
@@ -365,7 +403,7 @@ impl Pair {
         self.roles.set(settings);
     }
 
-    /// Sets the special characters for all that is typed from now on.
+    /// Sets the special characters for all that is typed after this call.
     pub fn set_chars(&mut self, chars: Chars)
         ensures { let settings = record self.old.settings { chars = chars } in
             self.new ≡ record self.old { settings = settings } }
@@ -412,7 +450,7 @@ impl Pair {
         }
     }
 
-    // Takes some of the leading bytes that make no entry, and returns how many; none where the pair is
+    // Takes some of the leading bytes that make no entry, and returns how many; none if the pair is
     // closed.
     #[inline(always)]
     fn take_quiet(&mut self, bytes: &[u8], input: Input) -> usize
@@ -441,8 +479,8 @@ impl Pair {
         }
     }
 
-    // Takes the leading bytes of an edited line that join it, and returns how many they are; none where the
-    // pair is closed.
+    // Takes the leading bytes of an edited line that join it, and returns how many they are; none
+    // if the pair is closed.
     fn keep_edited(&mut self, bytes: &[u8]) -> usize
         ensures within { result ≤ length bytes.now }
         ensures pair { self.new ≡ after_all Edited self.old (take result bytes.now) }
@@ -456,7 +494,7 @@ impl Pair {
         count
     }
 
-    // Types some of the leading keys that make no entry, and returns how many; none where the pair is
+    // Types some of the leading keys that make no entry, and returns how many; none if the pair is
     // closed.
     fn type_quiet(&mut self, keys: &[u8], echo: bool) -> usize
         ensures within { result ≤ length keys.now }
@@ -475,7 +513,7 @@ impl Pair {
         self.line.edit_run(&self.roles, keys)
     }
 
-    // Whether keys that make no entry are shown.
+    // Returns whether keys that make no entry are shown.
     fn shows(&self, echo: bool) -> bool
         ensures { result ≡ (echo && self.now.settings.flags.echo) }
     {
@@ -495,7 +533,7 @@ impl Pair {
         }
     }
 
-    // Why a key of this role is refused, before any memory is looked for.
+    // Returns the reason why a key of this role is refused, before any memory is looked for.
     fn refusal(&self, role: Role) -> Option<PtyFault>
         ensures none { IfNone result (Accepts self.now role) }
         ensures some { IfSome result (λ fault. Refuses self.now role fault (shut_terminal self.now)) }
@@ -511,7 +549,7 @@ impl Pair {
         None
     }
 
-    // No key and no command has an effect from now on.
+    // Closes the pair: no key and no command has an effect from then on.
     fn close(&mut self, fault: PtyFault) -> PtyFault
         ensures pair { self.new ≡ shut_terminal self.old }
         ensures fault { result ≡ fault }
@@ -520,7 +558,7 @@ impl Pair {
         fault
     }
 
-    // What a command of this role does to the line.
+    // Applies a command of this role to the line.
     fn act(&mut self, role: Role) -> Result<Effect, AllocError>
         requires { IsCommandRole role }
         ensures effect { IfOk result (λ effect. effect ≡ effect_of self.old.line role) }
@@ -537,7 +575,7 @@ impl Pair {
         }
     }
 
-    // Puts those of the symbols that are there into the queue, or none where they don't all fit.
+    // Puts those of the symbols that are there into the queue, or none if they do not all fit.
     #[tactic(auto, using(crate::proofs::Shown::count_present))]
     fn show(&mut self, symbols: &[Option<Symbol>])
         ensures { self.new ≡ record self.old { queue = queue_with self.old.queue (symbols_in symbols.now) } }
@@ -547,7 +585,8 @@ impl Pair {
         }
     }
 
-    // The same of the echo of a key, which most often is one symbol.
+    // Puts the echo of a key, which most often is one symbol, into the queue, or none of it if it
+    // does not fit.
     fn show_echo(&mut self, shown: [Option<Symbol>; 3])
         ensures { self.new ≡ record self.old { queue = queue_with self.old.queue (symbols_in shown) } }
     {
@@ -558,7 +597,7 @@ impl Pair {
         }
     }
 
-    // Puts the entry of an effect behind those that wait.
+    // Appends the entry of an effect to those that wait.
     fn keep(&mut self, effect: Effect)
         requires { length self.old.entries + length (effect_entries effect) ≤ max_waiting }
         ensures { self.new ≡ record self.old { entries = self.old.entries ++ effect_entries effect } }
@@ -584,7 +623,8 @@ fn role_of_command(command: Command) -> Role
     }
 }
 
-// How many leading bytes of an edited line join it. The byte after them closes it, or there is none.
+// Returns the number of leading bytes of an edited line that join it. The byte after them closes
+// it, or there is none.
 fn joining_front(chars: &Chars, bytes: &[u8]) -> usize
     ensures within { result ≤ length bytes.now }
     ensures joins { All (JoinsEdited chars.now) (take result bytes.now) }
@@ -638,7 +678,7 @@ fn put_echoes(queue: &mut Queue, bytes: &[u8])
     queue.push_run(&bytes[..count], false);
 }
 
-// The same one by one, which is faster where they are few.
+// Puts each of the bytes that fits into the queue, one by one, which is faster if they are few.
 fn put_few_echoes(queue: &mut Queue, bytes: &[u8])
     ensures { queue.new ≡ queue_with_each queue.old (map Byte bytes.now) }
 {
@@ -647,7 +687,7 @@ fn put_few_echoes(queue: &mut Queue, bytes: &[u8])
     }
 }
 
-// Puts a bell for each of the bytes into the queue, where it fits.
+// Puts a bell for each of the bytes into the queue, if it fits.
 fn put_bells(queue: &mut Queue, bytes: &[u8])
     ensures { queue.new ≡ queue_with_each queue.old (map (λ byte. Byte 7) bytes.now) }
 {
@@ -656,7 +696,7 @@ fn put_bells(queue: &mut Queue, bytes: &[u8])
     }
 }
 
-// Whether a line feed of output is shown as a new line.
+// Returns whether a line feed of output is shown as a new line.
 fn shows_newlines(flags: &Flags) -> bool
     ensures { result ≡ (flags.now.opost && flags.now.onlcr) }
 {

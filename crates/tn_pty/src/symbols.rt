@@ -12,11 +12,11 @@ use std::alloc::{AllocError, Global};
 use std::marker::Model;
 use tn_discipline::Symbol;
 
-/// How many symbols the output queue holds.
+/// The most symbols that the output queue holds.
 pub const QUEUE_SYMBOLS: usize = 4096;
 
-/// A queue of symbols: a byte for each, and a mark for each line feed among them, which says whether it is a
-/// new line.
+/// A queue of symbols: a byte for each, and a mark for each line feed among them, which is set if
+/// it is a new line.
 #[derive(Drop)]
 pub(crate) struct Queue {
     bytes: HeapCircularBuffer<u8>,
@@ -37,7 +37,7 @@ impl Model for Queue {
 }
 
 impl Queue {
-    /// An empty queue. It makes the room for all that it will ever hold.
+    /// Makes an empty queue, with room for all that it will ever hold.
     pub(crate) fn new(alloc: Global) -> Result<Queue, AllocError>
         ensures { IfOk result (λ queue. queue ≡ []) }
     {
@@ -47,7 +47,7 @@ impl Queue {
         })
     }
 
-    /// How many symbols wait.
+    /// Returns the number of symbols that wait.
     pub(crate) fn len(&self) -> usize
         ensures len { result ≡ length self.now }
         ensures within { result ≤ queue_symbols }
@@ -55,7 +55,7 @@ impl Queue {
         self.bytes.len()
     }
 
-    /// Puts a symbol behind the others, where it fits.
+    /// Appends a symbol, if it fits.
     pub(crate) fn push(&mut self, symbol: Symbol)
         ensures { self.new ≡ queue_with self.old (symbol ∷ []) }
     {
@@ -65,7 +65,7 @@ impl Queue {
         }
     }
 
-    // Puts a byte behind the others, where it fits. A line feed is a new line where that is asked for.
+    // Appends a byte, if it fits. A line feed is a new line if `newline` is set.
     fn push_byte(&mut self, byte: u8, newline: bool)
         ensures { self.new ≡ queue_with self.old (shown_byte newline byte ∷ []) }
     {
@@ -78,8 +78,7 @@ impl Queue {
         }
     }
 
-    /// Puts bytes behind the others, which leave room for them. Each line feed is a new line where that is
-    /// asked for.
+    /// Appends bytes, for which there is room. Each line feed is a new line if `newlines` is set.
     pub(crate) fn push_run(&mut self, bytes: &[u8], newlines: bool)
         requires { length self.old + length bytes.now ≤ queue_symbols }
         ensures { self.new ≡ self.old ++ map (shown_byte newlines) bytes.now }
@@ -136,7 +135,7 @@ impl Queue {
     }
 }
 
-// Puts a mark behind the others for each line feed among the bytes, for which there is room.
+// Appends a mark for each line feed among the bytes, for which there is room.
 fn push_marks(marks: &mut HeapCircularBuffer<bool>, bytes: &[u8], newlines: bool)
     requires { length marks.old.items + feeds bytes.now ≤ marks.old.capacity }
     ensures { let more = replicate (feeds bytes.now) newlines in
@@ -148,8 +147,8 @@ fn push_marks(marks: &mut HeapCircularBuffer<bool>, bytes: &[u8], newlines: bool
     }
 }
 
-// Puts the mark of the first byte behind the others where that is a line feed, else passes over the bytes in
-// front of the next one, and returns how many bytes were done.
+// Appends the mark of the first byte if that is a line feed, else passes over the bytes before the
+// next one, and returns how many bytes were done.
 fn push_mark(marks: &mut HeapCircularBuffer<bool>, bytes: &[u8], newlines: bool) -> usize
     requires some { 0 < length bytes.now }
     requires room { length marks.old.items + feeds bytes.now ≤ marks.old.capacity }
@@ -168,7 +167,7 @@ fn push_mark(marks: &mut HeapCircularBuffer<bool>, bytes: &[u8], newlines: bool)
     }
 }
 
-// The symbol that a byte stands for. A line feed takes the first mark.
+// Returns the symbol that a byte stands for. A line feed takes the first mark.
 #[inline(always)]
 fn take_symbol(byte: u8, marks: &mut HeapCircularBuffer<bool>) -> Symbol
     ensures symbol { result ≡ shown_byte (get_or marks.old.items 0 false) byte }
@@ -196,7 +195,7 @@ fn push_symbols(bytes: &[u8], marks: &mut HeapCircularBuffer<bool>, out: &mut Ve
     }
 }
 
-// Appends the leading run of two slices, of which one stands behind the other, and returns how long it is.
+// Appends the leading run of two slices that follow one another, and returns its length.
 fn copy_run(front: &[u8], back: &[u8], max: usize, ends: (u8, u8), out: &mut Vec<u8>) -> usize
     requires { vec_len out.old + min max (length front.now + length back.now) ≤ vec_capacity out.old }
     ensures count { result ≡ min max (length (leading_bytes ends.0 ends.1 (front.now ++ back.now))) }
@@ -214,7 +213,7 @@ fn copy_run(front: &[u8], back: &[u8], max: usize, ends: (u8, u8), out: &mut Vec
     count + copy_front(far, ends, out)
 }
 
-// Appends the leading run of the bytes, and returns how long it is.
+// Appends the leading run of the bytes, and returns its length.
 fn copy_front(bytes: &[u8], ends: (u8, u8), out: &mut Vec<u8>) -> usize
     requires { vec_len out.old + length bytes.now ≤ vec_capacity out.old }
     ensures count { result ≡ length (leading_bytes ends.0 ends.1 bytes.now) }
@@ -229,7 +228,7 @@ fn copy_front(bytes: &[u8], ends: (u8, u8), out: &mut Vec<u8>) -> usize
     count
 }
 
-// How long the leading run of the bytes is.
+// Returns the length of the leading run of the bytes.
 fn run_len(bytes: &[u8], ends: (u8, u8)) -> usize
     ensures within { result ≤ length bytes.now }
     ensures run { leading_bytes ends.0 ends.1 bytes.now ≡ take result bytes.now }

@@ -7,7 +7,7 @@ use Rattle.tn_cores.specs.{Ending.EndsWhole, declared.faults.{Ended.{Ended, TheV
 use Rattle.tn_session.specs.declared.parties.Report.{Report}
 
 module _ {M J : Type 0} (server : ServerFacts M J) (whole faulted refused : ℕ) where
-  -- as many are counted
+  -- no more sessions are counted
   pub none_more : (whole' faulted' refused' : ℕ) → (whole' ≡ whole) × (faulted' ≡ faulted) × (refused' ≡ refused)
       → StillCounts server whole faulted refused whole' faulted' refused'
   none_more whole' faulted' refused' same c = record {

@@ -8,7 +8,7 @@ pub enough : (count : ℕ) (told : Type 0) (accepted : Accepted) (served : Serve
 enough count told accepted served same tells (inl all) = inl (same ∙ all)
 enough count told accepted served same tells (inr few) = inr (subst (λ (n : ℕ). n ≤ count) (sym same) few.0, tells few.1)
 
--- the same, of what was served, where it agrees with what was accepted
+-- the count of what was served, if it agrees with what was accepted
 pub served_until : (count : ℕ) (told : Type 0) (accepted : Accepted) (result : Result Served ServeFault)
     → IfOk result (λ served. served.accepted ≡ accepted.count) → IfOk result (λ _. AreEnough count accepted) → (accepted.is_told ≡ true → told)
     → IfOk result (ServesUntil count told)

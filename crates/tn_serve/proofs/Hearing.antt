@@ -5,7 +5,7 @@ use Rattle.tn_serve.specs.{Ends.whole_of, Turns.{live_of, made_for, times, with_
 use Rattle.tn_serve.specs.Turns.{AreApart, EndsFollow, Hears, HearsAll, HearsOfEnd, HearsOfJobs, HearsOfNone, IsOneMore, StillHears, ended_for, is_same}
 use Rattle.tn_serve.specs.declared.turns.Turn.TheVariants.{Made, Refused, Ended}
 
--- after all of them
+-- jobs were made at most once more often than they were ended
 at_most : (number : ℕ) (calls : List Turn) → EndsFollow number calls → times (made_for number) calls ≤ times (ended_for number) calls + 1
 at_most number [] follow = omega arith
 at_most number (turn ∷ earlier) follow = follow.1
@@ -64,7 +64,7 @@ module _ {V : Type 0} (turns : V → Turn → V → Type 0) (HasEnded : Finished
       ended whole faulted whole (faulted + 1) (λ n. live n + is_same n number) live (λ n. refl) (omega (arith, not_whole), omega arith) first
       (made whole faulted live (λ n. live n + is_same n number) (λ n. refl) apart first h)
 
-  -- the same sessions run, and so many are counted
+  -- the sessions that ran run still, and this number is counted
   pub same_running : {S : Type 0} (started started' : List S) (number_of : S → ℕ) (whole faulted whole' faulted' : ℕ) (first new : V) → started' ≡ started
       → whole' ≡ whole → faulted' ≡ faulted
       → Hears turns HasEnded first whole faulted new (live_of started number_of) → Hears turns HasEnded first whole' faulted' new (live_of started' number_of)
@@ -73,7 +73,7 @@ module _ {V : Type 0} (turns : V → Turn → V → Type 0) (HasEnded : Finished
       (subst (λ (k : ℕ). Hears turns HasEnded first k faulted' new (live_of started number_of)) (sym same')
       (subst (λ (k : ℕ). Hears turns HasEnded first whole k new (live_of started number_of)) (sym same'') h))
 
-  -- the same sessions run, and no connection more is counted
+  -- the sessions that ran run still, and no connection more is counted
   pub none_counted : {S : Type 0} (started started' : List S) (number_of : S → ℕ) (whole faulted whole' faulted' : ℕ) (old new : V) → started' ≡ started
       → whole' ≡ whole → faulted' ≡ faulted → new ≡ old
       → StillHears turns HasEnded whole faulted old (live_of started number_of) whole' faulted' new (live_of started' number_of)
@@ -81,7 +81,7 @@ module _ {V : Type 0} (turns : V → Turn → V → Type 0) (HasEnded : Finished
       same_running started started' number_of whole faulted whole' faulted' first new same same' same''
       (subst (λ (v : V). Hears turns HasEnded first whole faulted v (live_of started number_of)) (sym is) h)
 
-  -- the same sessions run, and one connection more is counted
+  -- the sessions that ran run still, and one connection more is counted
   pub one_counted : {S : Type 0} (started started' : List S) (number_of : S → ℕ) (number whole faulted whole' faulted' : ℕ) (old new : V) → started' ≡ started
       → whole' ≡ whole → faulted' ≡ faulted + 1 → AreApart (with_one number (live_of started number_of))
       → HearsOfNone turns HasEnded number old new → StillHears turns HasEnded whole faulted old (live_of started number_of) whole' faulted' new

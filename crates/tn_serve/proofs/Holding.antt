@@ -48,13 +48,13 @@ has_left old new started number_of number leaves h = (
   omega (arith, h.1, leaves.one_less),
 )
 
--- the number of the one beside is held
+-- the number of the one next to it is held
 pub beside : {S : Type 0} (roster : Held) (started : List S) (number_of : S → ℕ) (number : ℕ) → AreHeldBeside number roster started number_of
     → is_held roster number ≡ true
 beside roster started number_of number h =
     flag_set (is_held roster number) (live_of started number_of number) (let one = same_number number in omega (arith, h.0 number, one))
 
--- it runs
+-- the number of the session that runs is held
 pub runs : {S : Type 0} (roster : Held) (started started' : List S) (number_of : S → ℕ) (number : ℕ)
     → IsOneMore number (live_of started number_of) (live_of started' number_of) → length started' ≡ length started + 1
     → AreHeldBeside number roster started number_of → AreHeld roster started' number_of
@@ -76,7 +76,7 @@ none_held roster started number_of empty none = (
   ap (λ (l : List (Option ⊤)). count_by is_some l) empty ∙ sym none,
 )
 
--- where there is no place, so many sessions run as there may be
+-- if there is no place, as many sessions run as there may be
 pub no_place : {S : Type 0} (roster roster' : Held) (started : List S) (number_of : S → ℕ) (count sessions per_host from_host : ℕ) → roster' ≡ roster
     → roster.limit ≡ sessions → count ≡ length started → AreHeld roster started number_of → HasNoPlace roster' per_host from_host
     → RunsAll count sessions per_host from_host

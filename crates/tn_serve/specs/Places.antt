@@ -1,4 +1,4 @@
--- How many sessions there may be, of all and of one host.
+-- The most sessions at once, of all and of one host.
 use Rattle.std.specs.Prelude.{◌≡◌, ◌≤◌, ◌+◌, ◌⊎◌, ℕ, Bool, false, Option, None, Some, List, [], ◌∷◌, ◌++◌}
 use Rattle.std.specs.{Prelude.{count_by, length, if◌then◌else◌, get_or}, Net.Socket.socket_ip}
 use Rattle.std.specs.{Net.Addr.ipv6_segments, declared.net.ip_addr.IpAddr.{IpAddr, TheVariants.{V4, V6}}}
@@ -38,11 +38,11 @@ is_one_host (Some one) (Some other) = is_same one other
 is_one_host (Some one) None = false
 is_one_host None other = false
 
--- how many of these sessions are counted as from this host
+-- the number of these sessions that are counted as from this host
 abbrev pub count_at : {S : Type 0} → (S → Peer) → Option IpAddr → List S → ℕ
 count_at peer_of host started = count_by (λ s. is_one_host (counted_as (peer_of s)) host) started
 
--- how many of these sessions are counted as from the host of this peer
+-- the number of these sessions that are counted as from the host of this peer
 abbrev pub count_from : {S : Type 0} → (S → Peer) → Peer → List S → ℕ
 count_from peer_of peer started = count_at peer_of (counted_as peer) started
 
@@ -50,15 +50,15 @@ count_from peer_of peer started = count_at peer_of (counted_as peer) started
 abbrev pub HasNoPlace : Held → ℕ → ℕ → Type 0
 HasNoPlace roster per_host from_host = (held_count roster ≡ roster.limit) ⊎ (per_host ≤ from_host)
 
--- so many sessions run as there may be: of all, or of those from one host
+-- as many sessions run as there may be: of all, or of those from one host
 abbrev pub RunsAll : ℕ → ℕ → ℕ → ℕ → Type 0
 RunsAll count sessions per_host from_host = (count ≡ sessions) ⊎ (per_host ≤ from_host)
 
--- 1 where this number is held
+-- 1 if this number is held
 abbrev pub held_of : Held → ℕ → ℕ
 held_of roster number = if is_held roster number then 1 else 0
 
--- each number is held as often as it is live, and so many are held
+-- each number is held as often as it is live, and this number of them is held
 abbrev pub HoldsSo : Held → (ℕ → ℕ) → ℕ → Type 0
 HoldsSo roster live count = ((number : ℕ) → held_of roster number ≡ live number) × (held_count roster ≡ count)
 
@@ -66,12 +66,13 @@ HoldsSo roster live count = ((number : ℕ) → held_of roster number ≡ live n
 abbrev pub AreHeld : {S : Type 0} → Held → List S → (S → ℕ) → Type 0
 AreHeld roster started number_of = HoldsSo roster (live_of started number_of) (length started)
 
--- the same, and this number is held for one that is to run
+-- `AreHeld`, and this number is held for a session that is to run
 abbrev pub AreHeldBeside : {S : Type 0} → ℕ → Held → List S → (S → ℕ) → Type 0
 AreHeldBeside number roster started number_of =
     HoldsSo roster (with_one number (live_of started number_of)) (length started + 1)
 
--- the same sessions run, or one more, over this connection, from this peer and with this serial number
+-- the sessions that ran run still, or with one more, over this connection, from this peer and with this
+-- serial number
 abbrev pub RunsOver : {S : Type 0} → (S → TcpStream) → (S → Caller) → TcpStream → Peer → ℕ → List S →
     List S → Type 0
 RunsOver {S} stream_of caller_of stream peer serial old new = (new ≡ old) ⊎ ((s : S) × (new ≡ old ++ s ∷ [])

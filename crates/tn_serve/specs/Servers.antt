@@ -1,4 +1,4 @@
--- Which session a server runs over a connection.
+-- The session that a server runs over a connection.
 use Rattle.std.specs.Prelude.{◌≡◌, ◌≢◌, ℕ, Option, Some, None, [], IfOk, IfErr}
 use Rattle.std.specs.declared.net.tcp.TcpStream.{TcpStream}
 use Rattle.tn_discipline.specs.{Characters.standard_characters, Keys.standard_flags}
@@ -20,7 +20,7 @@ terminal_of options =
       editing = options.editing;
     }
 
--- of its connection nothing is known before, but that it tells no size, and what its last words may be
+-- nothing is known of its connection before, except that it sends no size, and what its last words may be
 abbrev pub attended : KnownReader
 attended = record { bytes = None; failures = None; sizes = Some []; words = last_lines }
 
@@ -30,7 +30,7 @@ abbrev pub RunsWriting : {J : Type 0} → JobFacts J → Option ℕ → SessionO
 RunsWriting facts to_make options log result =
     RunningSession facts to_make (terminal_of options) attended (wrote log) result
 
--- the same, of what it gave back: all that was read from the connection stands in the ports
+-- a session with this result ran over a connection: all that was read from it stands in the ports
 abbrev pub RunsServer : {J : Type 0} → JobFacts J → Option ℕ → SessionOptions → Conversed → Type 0
 RunsServer facts to_make options conversed =
     RunsWriting facts to_make options conversed.log (session_result conversed.report conversed.ports)
@@ -39,8 +39,8 @@ RunsServer facts to_make options conversed =
 abbrev pub connection_of : Conversed → TcpStream
 connection_of conversed = conversed.connection.value
 
--- What the thread of a session gives back: where that came to its report, such a session ran over this
--- connection, in which never too many entries waited; else why it did not.
+-- The result of the thread of a session: if it came to its report, such a session ran over this connection,
+-- in which never too many entries waited; else why it did not.
 abbrev pub IsPromised : {J : Type 0} → JobFacts J → Option ℕ → SessionOptions → TcpStream → Ran → Type 0
 IsPromised facts to_make options stream ran =
     IfErr ran.ended IsRefusal

@@ -1,4 +1,4 @@
-//! Connections are accepted in a thread of their own.
+//! Accepts connections in a thread of their own.
 
 ghost use Rattle.std.specs.Prelude.{◌≡◌, true, Contains, IsTrue, false, IsFalse, Ok, IfErr, IfNone, IfOk};
 ghost use Rattle.std.specs.Prelude.{IfSome, vec_items};
@@ -23,14 +23,15 @@ use std::{io, thread};
 use tn_net::Host;
 use tn_net::network::{Network, Peer};
 
-/// How many milliseconds lie between two attempts where the machine can give no connection.
+/// The number of milliseconds between two attempts if the machine can give no connection.
 const PAUSE: u64 = 100;
 
-/// How many milliseconds a connection is waited for, before it is asked again whether one is to come.
+/// The number of milliseconds for which a connection is waited for, before it is asked again
+/// whether one is to come.
 const LOOK: i32 = 1_000;
 
-/// Accepts so many connections, or fewer if it is told so, and sends each on. After the last it asks whether
-/// the server is to end, until `over` is closed.
+/// A thread's work: it accepts `count` connections, or fewer if it is asked to stop, and sends each
+/// on. After the last it asks whether the server is to end, until `over` is closed.
 #[derive(Drop)]
 pub(crate) struct Acceptor<H, U> {
     pub(crate) rt: H,
@@ -38,30 +39,30 @@ pub(crate) struct Acceptor<H, U> {
     pub(crate) events: Sender<Event, Global>,
     pub(crate) over: Receiver<(), Global>,
     pub(crate) count: u64,
-    /// Each connection is of a proxy, and begins with the line that says for whom.
+    /// Whether each connection is of a proxy, and begins with the line that names its client.
     pub(crate) is_proxied: bool,
-    /// Others have the listeners too, and go on with them.
+    /// Whether others have the listeners too, and go on with them.
     pub(crate) is_handed: bool,
     pub(crate) until: U,
 }
 
-/// A connection that was accepted, and for whom it is.
+/// A connection that was accepted, and its client.
 #[derive(Drop)]
 struct Came {
     stream: (TcpStream, Peer),
     whom: Peer,
 }
 
-/// How many connections were accepted.
+/// The number of connections that were accepted.
 #[derive(Clone, Copy)]
 pub(crate) struct Accepted {
     pub(crate) count: u64,
-    /// It was told that no more are to come.
+    /// Whether `until` reported that no more are to come.
     pub(crate) is_told: bool,
 }
 
 impl Accepted {
-    // So many, and it was not told so.
+    // Makes the count of connections that were accepted before `until` reported anything.
     fn untold(count: u64) -> Accepted
         ensures count { result.count ≡ count }
         ensures untold { IsFalse result.is_told }
@@ -72,7 +73,7 @@ impl Accepted {
         }
     }
 
-    /// Whether these are all of so many that were asked for, or no more are to come.
+    /// Returns whether these are all of `count`, or no more are to come.
     pub(crate) fn are_enough(self, count: u64) -> bool
         ensures { IsTrue result → AreEnough count self }
     {
@@ -83,8 +84,8 @@ impl Accepted {
     }
 }
 
-/// What the thread that accepts promises: it gives back of how many connections it was asked for each, and
-/// whether it was told that no more are to come.
+/// The promise of the thread that accepts: the number of connections for which each listener was
+/// asked, and whether `until` reported that no more are to come.
 #[derive(Drop)]
 pub(crate) struct AcceptorSays<H, U> {
     pub(crate) rt: Snapshot<H>,
@@ -102,7 +103,7 @@ impl<H: Network, U: Until> Promise<Accepted> for AcceptorSays<H, U> {
 }
 
 impl<H: Host + Network, U: Until + Drop + Send + 'static> Acceptor<H, U> {
-    /// Runs it in a thread of its own, where one can be had.
+    /// Starts the acceptor in a thread of its own, if one can be had.
     pub(crate) fn start(
         self,
         waiting: Waiting,
@@ -127,8 +128,8 @@ impl<H: Host + Network, U: Until + Drop + Send + 'static> Acceptor<H, U> {
         }
     }
 
-    // Runs until the last connection was accepted, none is to come any more, a listener is broken, or nobody
-    // listens any more. The files of listeners at paths are gone then.
+    // Runs until the last connection was accepted, none is to come any more, a listener is broken,
+    // or the other end of the channel is gone. The files of listeners at paths are gone then.
     fn run(self, waiting: Waiting) -> Accepted
         ensures { AcceptsUntil (AcceptsAtOne (H.accepts self.rt) (vec_items self.listeners))
             (U.ends self.until) result }
@@ -166,7 +167,7 @@ impl<H: Host + Network, U: Until + Drop + Send + 'static> Acceptor<H, U> {
         Accepted::untold(self.count)
     }
 
-    // Sends on that the server is to end, if it is told so before it has ended.
+    // Sends on that the server is to end, if `until` reports so before it has ended.
     fn wait_for_end(&self) {
         for _ in self.rt.forever() {
             let is_told = self.until.is_over();
@@ -198,10 +199,11 @@ impl<H: Host + Network, U: Until + Drop + Send + 'static> Acceptor<H, U> {
         }
     }
 
-    // The connection of this number, or none where it is told that none is to come any more. One that its
-    // peer closed before it was accepted is skipped. If the machine has no descriptor but the spare one, the
-    // connection is told `full`. If it has no memory, or not even that descriptor, this is reported once, and it
-    // is tried again after a pause. It fails if a listener is broken.
+    // Returns the connection of this number, or `None` if `until` reports that none is to come any
+    // more. One that its peer closed before it was accepted is skipped. If the machine has no
+    // descriptor but the spare one, the connection gets the line `full`. If it has no memory, or
+    // not even that descriptor, this is reported once, and the call tries again after a pause. It
+    // fails if a listener is broken.
     fn next(
         &self,
         number: u64,
@@ -240,7 +242,7 @@ impl<H: Host + Network, U: Until + Drop + Send + 'static> Acceptor<H, U> {
         Err(io::Error::from_raw_os_error(libc::EBADF))
     }
 
-    // The listener at which a connection waits, if one comes soon.
+    // Returns the listener at which a connection waits, if one comes soon.
     fn called(&self, waiting: &mut Waiting) -> Option<&TcpListener>
         ensures { IfSome result (λ listener. Contains (vec_items self.now.listeners) listener.now) }
     {
@@ -248,13 +250,14 @@ impl<H: Host + Network, U: Until + Drop + Send + 'static> Acceptor<H, U> {
         self.listeners.get(place)
     }
 
-    // One more descriptor, which is given up if there is no other.
+    // Opens one more descriptor, which is given up if there is no other.
     fn spare(&self) -> Option<TcpListener> {
         let listener = self.listeners.first()?;
         self.rt.share(listener).ok()
     }
 
-    // For whom this connection from `peer` is. `None`, which is reported, if a proxy does not say it.
+    // Returns the client of this connection from `peer`. It returns `None`, and reports it, if a
+    // proxy does not name the client.
     fn whom(&self, stream: &TcpStream, peer: Peer) -> Option<Peer> {
         if !self.is_proxied {
             return Some(peer);
@@ -266,8 +269,9 @@ impl<H: Host + Network, U: Until + Drop + Send + 'static> Acceptor<H, U> {
         whom
     }
 
-    // Accepts the connection that waits in place of the spare descriptor, tells it `full` and closes it after a
-    // pause. False if there is no such descriptor, or another thread took it.
+    // Accepts the connection that waits in place of the spare descriptor, sends it `full` and
+    // closes it after a pause. It returns false if there is no such descriptor, or another thread
+    // took it.
     fn refuse(
         &self,
         listener: &TcpListener,
@@ -304,7 +308,8 @@ impl<H: Host + Network, U: Until + Drop + Send + 'static> Acceptor<H, U> {
             .send(&self.rt, Event::Refused(shown(peer), cause));
     }
 
-    // Waits for a while, since the machine can give no connection. That is told where it was not told before.
+    // Waits for a while, since the machine can give no connection. The first time, this is
+    // reported.
     fn starve(&self, error: io::Error, is_told: bool) {
         if !is_told {
             let _ = self.events.send(&self.rt, Event::Starved(error));
@@ -313,7 +318,7 @@ impl<H: Host + Network, U: Until + Drop + Send + 'static> Acceptor<H, U> {
     }
 }
 
-/// For which listeners the system is asked whether a connection waits.
+/// The listeners for which the system is asked whether a connection waits.
 #[derive(Drop)]
 pub(crate) struct Waiting {
     sockets: Vec<pollfd>,
@@ -322,7 +327,8 @@ pub(crate) struct Waiting {
 }
 
 impl Waiting {
-    /// For a connection at each of these listeners. A socket that is a connection can be written to.
+    /// Makes the poll for a connection at each of these listeners. A socket that is a connection
+    /// can be written to.
     pub(crate) fn new(alloc: Global, listeners: &[TcpListener]) -> Result<Waiting, AllocError> {
         let mut sockets = Vec::new(alloc);
         for listener in listeners {
@@ -335,8 +341,8 @@ impl Waiting {
         Ok(Waiting { sockets, last: 0 })
     }
 
-    // The place of a listener at which a connection waits: of several the next after the last. `None` if none
-    // comes for a while.
+    // Returns the place of a listener at which a connection waits: of several the next after the
+    // last. It returns `None` if none comes for a while.
     fn next(&mut self) -> Option<usize> {
         if c::poll(self.sockets.as_mut_slice(), LOOK) <= 0 {
             return None;
@@ -377,12 +383,12 @@ fn is_passing(kind: ErrorKind) -> bool {
     )
 }
 
-// The process has as many descriptors as it may.
+// Returns whether the process has as many descriptors as it may.
 fn is_without_descriptor(error: &io::Error) -> bool {
     error.raw_os_error() == Some(libc::EMFILE)
 }
 
-// The listener takes no connection, and never will.
+// Returns whether the listener takes no connection, and never will.
 fn is_broken(error: &io::Error) -> bool
     ensures { IsTrue result → IsBroken error.now }
 {

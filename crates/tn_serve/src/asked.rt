@@ -1,4 +1,4 @@
-//! What the sessions of one server are to be, for contracts.
+//! The options for which the sessions of one server were asked, for contracts.
 
 use std::marker::Brand;
 
@@ -13,7 +13,7 @@ pub(crate) trait Asked<M> {
     // its service makes such jobs
     ghost made: { M → Type 0 };
 
-    // such a connection was told that there is no room
+    // the network was asked to send such a connection that there is no room
     ghost turned: { TcpStream → Type 0 };
 }
 

@@ -12,13 +12,13 @@ use tn_net::network::Peer;
 pub struct Call {
     /// The session's number, from 0 on. Another session gets it once this one has ended.
     pub number: usize,
-    /// Who it is with.
+    /// The client of the connection.
     pub peer: Peer,
     pub hook: Hook,
     pub notes: Notes,
 }
 
-/// By it a job has something noted of its session, where its server notes anything.
+/// A handle by which a job has something noted of its session, if its server notes anything.
 #[derive(Drop)]
 pub struct Notes {
     pub(crate) events: Sender<Event, Global>,
@@ -26,11 +26,11 @@ pub struct Notes {
 }
 
 impl Notes {
-    /// One more of the same.
+    /// Makes one more handle of the same session.
     ///
     /// # Errors
     ///
-    /// Out of memory.
+    /// - Out of memory.
     pub fn another(&self) -> Result<Notes, AllocError> {
         Ok(Notes {
             events: self.events.clone()?,
@@ -44,8 +44,8 @@ impl Notes {
         let _ = self.events.try_send(rt, Event::Telnet(self.number));
     }
 
-    /// Has it noted that a line of so many bytes may have been cut. While too much is to be noted, that is
-    /// dropped.
+    /// Has it noted that a line of this number of bytes may have been truncated. While too much is
+    /// to be noted, the note is dropped.
     pub fn note_cut<R: Wait>(&self, rt: &R, bytes: usize) {
         let _ = self.events.try_send(rt, Event::Cut(self.number, bytes));
     }

@@ -13,9 +13,10 @@ use tn_session::{Ports, Report, SessionFault};
 #[derive(Drop)]
 pub struct Conversed {
     pub report: Report,
-    /// In them contracts see what each of its threads sent, and so all that was read from the connection.
+    /// The passes of its threads, in which contracts see what each sent, and so all that was read
+    /// from the connection.
     pub ports: Ports,
-    /// In it contracts see all that was written to the connection.
+    /// The log in which contracts see all that was written to the connection.
     pub log: WriteLog,
     /// The connection that it ran over, for contracts.
     pub connection: Snapshot<TcpStream>,
@@ -24,16 +25,16 @@ pub struct Conversed {
 // A session whose threads are joined, as its thread gives it back.
 #[derive(Drop)]
 pub(crate) struct Ran {
-    // What it gave, or why it did not come to its report.
+    // The result of the session, or why it did not come to its report.
     pub(crate) ended: Result<Conversed, SessionFault>,
     // Its client typed nothing for too long.
     pub(crate) idle: bool,
-    // It lasted too long.
+    // Whether the session lasted too long.
     pub(crate) too_long: bool,
 }
 
 impl Ran {
-    // How it ended, as it is told to a service.
+    // Returns how the session ended, as its service gets it.
     pub(crate) fn finished(&self) -> Finished
         ensures { result ≡ finished_as self.now }
     {

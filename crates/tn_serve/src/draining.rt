@@ -1,18 +1,18 @@
-//! How sessions end once a server is to end.
+//! The end of sessions once a server is to end.
 
 use std::time::{Clock, Duration, Instant};
 
-/// How many seconds a session has to end once it is to, before its connection is cut.
+/// The number of seconds that a session has to end once it is to, before its connection is cut.
 const CUT: u64 = 3;
 
-/// How many milliseconds lie between two looks.
+/// The number of milliseconds between two looks.
 const LOOK: u64 = 200;
 
-/// What is due for the sessions that still run.
+/// The action that is due for the sessions that still run.
 #[derive(Clone, Copy)]
 pub(crate) enum Due {
     Nothing,
-    /// They are to end, with `closing` as their last words.
+    /// The sessions are to end, with `closing` as their last words.
     Close,
     /// Their connections are cut: some peer takes nothing.
     Cut,
@@ -22,23 +22,24 @@ pub(crate) enum Due {
 enum Stage {
     /// More connections may come.
     Open,
-    /// None comes any more, since this moment, and sessions may go on.
+    /// No connection comes any more, since this moment, and sessions may go on.
     Draining(Option<Instant>),
     /// Sessions are to end, since this moment.
     Closing(Option<Instant>),
     Over,
 }
 
-/// How far a server is that is to end.
+/// The state of a server that is to end.
 #[derive(Clone, Copy)]
 pub(crate) struct Drain {
-    /// How many seconds sessions have to end, or 0 for as many as they want.
+    /// The number of seconds that sessions have to end; 0 sets no limit.
     seconds: u32,
     stage: Stage,
 }
 
 impl Drain {
-    /// More connections may come; after the last, sessions have these seconds to end, or any time at 0.
+    /// Makes the state in which more connections may come; after the last, sessions have these
+    /// seconds to end, or any time at 0.
     pub(crate) fn new(seconds: u32) -> Drain {
         Drain {
             seconds,
@@ -46,7 +47,7 @@ impl Drain {
         }
     }
 
-    /// What is due now.
+    /// Returns the action that is due at this moment.
     pub(crate) fn next<C: Clock>(&mut self, clock: &C, is_closed: bool) -> Due {
         match self.stage {
             Stage::Open if is_closed && self.seconds > 0 => {
@@ -65,7 +66,7 @@ impl Drain {
         Due::Nothing
     }
 
-    /// How long nothing else is waited for, if more may be due.
+    /// Returns the time after which more may be due, if no event comes before.
     pub(crate) fn time(&self) -> Option<Duration> {
         match self.stage {
             Stage::Draining(_) | Stage::Closing(_) => Some(Duration::from_millis(LOOK)),
@@ -74,7 +75,7 @@ impl Drain {
     }
 }
 
-// Whether a moment lies so many seconds back. Without a clock it does.
+// Returns whether a moment lies this number of seconds back. Without a clock it does.
 fn is_past<C: Clock>(clock: &C, moment: Option<Instant>, seconds: u64) -> bool {
     match moment.map(|moment| moment.elapsed(clock)) {
         Some(Ok(elapsed)) => elapsed.as_secs() >= seconds,

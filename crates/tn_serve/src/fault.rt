@@ -1,4 +1,4 @@
-//! Why serving failed.
+//! The reasons why serving failed.
 
 ghost use Rattle.std.specs.Prelude.{◌≡◌};
 
@@ -7,13 +7,13 @@ use std::io;
 use thiserror::Error;
 use tn_session::roster::RosterFault;
 
-/// Why serving failed.
+/// The reason why serving failed.
 #[derive(Clone, Copy, Debug, PartialEq, Eq, Error)]
 pub enum ServeFault {
     /// The port could not be bound, or a connection was not accepted.
     #[error("network")]
     Network,
-    /// A roster cannot have so many places.
+    /// A roster cannot have this number of places.
     #[error("bad limit")]
     Limit,
     #[error("memory")]

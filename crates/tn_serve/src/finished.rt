@@ -1,23 +1,23 @@
-//! How a session over a connection ended.
+//! The end of a session over a connection.
 
 ghost use Rattle.std.specs.Prelude.{◌≡◌, IsTrue, false, IsFalse};
 ghost use Rattle.tn_serve.specs.Ends.{IsWhole, not_started};
 
 use tn_session::{Report, SessionFault};
 
-/// How a session over a connection ended.
+/// The end of a session over a connection.
 #[derive(Clone, Copy, PartialEq, Eq)]
 pub struct Finished {
-    /// What the session tells, or why it did not run to its report.
+    /// The report of the session, or the reason why it has none.
     pub report: Result<Report, SessionFault>,
     /// Its client typed nothing for too long.
     pub idle: bool,
-    /// It lasted too long.
+    /// Whether the session lasted too long.
     pub too_long: bool,
 }
 
 impl Finished {
-    /// Whether it ended without a fault.
+    /// Returns whether it ended without a fault.
     pub fn is_whole(&self) -> bool
         ensures whole { IsTrue result → IsWhole self.now }
         ensures faulted { IsFalse result → ¬ IsWhole self.now }
@@ -28,7 +28,7 @@ impl Finished {
         }
     }
 
-    /// None of its threads could be started.
+    /// Makes the end of a session none of whose threads could be started.
     pub(crate) fn unstarted() -> Finished
         ensures { result ≡ not_started }
     {
@@ -39,7 +39,7 @@ impl Finished {
         }
     }
 
-    /// The entries that went to its job.
+    /// Returns the number of entries that went to its job.
     pub(crate) fn entries(&self) -> u64 {
         match &self.report {
             Ok(report) => report.entries,

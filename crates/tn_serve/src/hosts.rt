@@ -6,7 +6,8 @@ ghost use Rattle.tn_serve.specs.Places.{counted_as, host_of, subnet_of};
 use std::net::{IpAddr, Ipv6Addr, SocketAddr};
 use tn_net::network::Peer;
 
-/// The address as which a peer is counted, if it is. One over a Unix-domain socket is not: no bound is its own.
+/// Returns the address as which a peer is counted, if it is. A peer over a Unix-domain socket is
+/// not: no bound is its own.
 pub(crate) fn counted_as(peer: Peer) -> Option<IpAddr>
     ensures { result ≡ counted_as peer }
 {
@@ -16,7 +17,8 @@ pub(crate) fn counted_as(peer: Peer) -> Option<IpAddr>
     }
 }
 
-// That of IPv4, or the first 64 bits of IPv6. A host chooses the others (RFC 4291, 2.5.1).
+// Returns an address of IPv4 whole, or the first 64 bits of one of IPv6. A host chooses the others
+// (RFC 4291, 2.5.1).
 fn host_of(address: IpAddr) -> IpAddr
     ensures { result ≡ host_of address }
 {
@@ -33,7 +35,8 @@ fn subnet_of(address: Ipv6Addr) -> Ipv6Addr
     Ipv6Addr::new(parts[0], parts[1], parts[2], parts[3], 0, 0, 0, 0)
 }
 
-/// An address of IPv4 that IPv6 carries (RFC 4291, 2.5.5.2), as that of IPv4; any other as it is.
+/// Returns an address of IPv4 that IPv6 carries (RFC 4291, 2.5.5.2) as that of IPv4, and any other
+/// as it is.
 pub(crate) fn shown(peer: Peer) -> Peer {
     match peer {
         Peer::Address(address) => Peer::Address(SocketAddr::new(

@@ -1,13 +1,17 @@
-//! A server's sessions over connections, in threads of their own: each gets the jobs that a `Service` makes.
+//! A server's sessions over connections, in threads of their own: each gets the jobs that a
+//! `Service` makes.
+//!
+//! Begin with `Service`, the trait that gives each session its jobs, and `Serving`, the options of
+//! a server.
 //!
 //! ```
 //! let at = At { host: "127.0.0.1", port: 2323, handed: None };
 //! serve(rt, alloc, &[at], serving, Never, service, &log, &mut causes)?;
 //! ```
 //!
-//! Nothing is proved about what a connection carries: the sessions are proved for whatever their readers
-//! give, and this crate only starts and joins them. It asks for no password and encrypts nothing. A client is
-//! `tn_connect`.
+//! The bytes that a connection carries are not proved: the sessions are proved for all bytes that
+//! their readers give, and this crate only starts and joins them. It asks for no password and
+//! encrypts nothing. A client is `tn_connect`.
 #![tactic(auto)]
 
 pub use call::{Call, Notes};

@@ -10,8 +10,9 @@ use std::io;
 use std::net::TcpListener;
 use tn_net::network::{Network, names_path};
 
-/// Where to listen: at a host, which is an address or a name that has one, and at this port of it; at a path,
-/// if the host is `unix:` and that path; or at the socket that the process was started with at this descriptor.
+/// A place to listen: a host, which is an address or a name that has one, and this port of it; a
+/// path, if the host is `unix:` and that path; or the socket with which the process was started at
+/// this descriptor.
 #[derive(Clone, Copy)]
 pub struct At<'a> {
     pub host: &'a str,
@@ -19,8 +20,8 @@ pub struct At<'a> {
     pub handed: Option<u16>,
 }
 
-/// Listens at each of these places. If that cannot be at one, `causes` gets a line, which says why, and those
-/// before it are given up.
+/// Listens at each of these places. If that cannot be at one, `causes` gets a line, which says why,
+/// and those before it are given up.
 pub(crate) fn listen_all<N: Network>(
     net: &N,
     alloc: Global,
@@ -44,7 +45,7 @@ pub(crate) fn listen_all<N: Network>(
     Ok(listeners)
 }
 
-// Listens there. If that cannot be, `causes` gets a line, which says why.
+// Listens at this place. If that cannot be, `causes` gets a line, which says why.
 fn listen_at<N: Network>(
     net: &N,
     alloc: Global,

@@ -1,5 +1,5 @@
-//! What a server notes. Each note is a record: its target names the event, its pairs hold what programs read,
-//! and its sentence is what people read.
+//! The notes of a server. Each note is a record: its target names the event, its pairs hold what
+//! programs read, and its sentence is what people read.
 
 use crate::caller::Caller;
 use crate::finished::Finished;
@@ -14,7 +14,7 @@ use std::{fmt, io, str};
 use tn_net::network::{ListeningOn, Peer};
 use tn_session::{Ended, SessionFault};
 
-/// Notes where connections are accepted.
+/// Notes the address at which connections are accepted.
 pub(crate) fn listening<L: Log>(log: &L, listener: &TcpListener) {
     let address = ListeningOn(listener);
     info!(log; target: "listening", address:% = address; "listening on {}", address);
@@ -36,7 +36,7 @@ pub(crate) fn full<L: Log>(log: &L, serial: u64, peer: &Peer) {
     );
 }
 
-/// Notes that a line of so many bytes may have been cut.
+/// Notes that a line of this number of bytes may have been truncated.
 pub(crate) fn cut<L: Log>(log: &L, caller: &Caller, bytes: usize) {
     info!(
         log; target: "cut", session = caller.number, serial = caller.serial, peer:% = caller.peer,
@@ -61,7 +61,8 @@ pub(crate) fn unproxied<L: Log>(log: &L, peer: &Peer) {
     );
 }
 
-/// Notes that a connection got no session, since the machine had a descriptor only to tell it so.
+/// Notes that a connection got no session, since the machine had a descriptor only to send it
+/// `full`.
 pub(crate) fn full_by<L: Log>(log: &L, peer: &Peer, error: &io::Error) {
     warn!(
         log; target: "full", peer:% = peer, cause:% = error;
@@ -92,7 +93,8 @@ pub(crate) fn fault<L: Log>(log: &L) {
 pub(crate) struct SessionEnd<'a> {
     pub(crate) caller: &'a Caller,
     pub(crate) finished: &'a Finished,
-    /// Why its service was not reached, a line that begins with `tn: ` for each address, or nothing.
+    /// The causes why its service was not reached, a line that begins with `tn: ` for each address,
+    /// or nothing.
     pub(crate) causes: &'a [u8],
     /// Its server was to end.
     pub(crate) is_closing: bool,
@@ -121,7 +123,7 @@ pub(crate) fn ended<L: Log>(log: &L, end: &SessionEnd<'_>) {
     );
 }
 
-// Whose session it is.
+// The client whose session it is.
 #[derive(Clone, Copy)]
 struct Whose<'a>(&'a Caller);
 
@@ -137,7 +139,7 @@ impl Display for Whose<'_> {
     }
 }
 
-// Why a session ended.
+// The reason why a session ended.
 #[derive(Clone, Copy)]
 struct Why<'a>(&'a SessionEnd<'a>);
 
@@ -173,8 +175,8 @@ fn write_cause<W: fmt::Write>(f: &mut fmt::Formatter<W>, end: &SessionEnd<'_>) -
     }
 }
 
-// Why the connection broke, unless the system failed: the server was to end and cut it, or the client reset
-// it. A write after a reset fails as over a pipe that nobody reads.
+// Returns why the connection broke, unless the system failed: the server was to end and cut it, or
+// the client reset it. A write after a reset fails as over a pipe without a reader.
 fn why_broken(end: &SessionEnd<'_>) -> Option<&'static str> {
     let fault = match &end.finished.report {
         Err(fault) => *fault,
@@ -193,7 +195,7 @@ fn why_broken(end: &SessionEnd<'_>) -> Option<&'static str> {
     }
 }
 
-// If the connection broke, the system's word for it.
+// Writes the system's message for the error that broke the connection, if one did.
 fn write_fault<W: fmt::Write>(
     f: &mut fmt::Formatter<W>,
     fault: SessionFault,
@@ -205,7 +207,7 @@ fn write_fault<W: fmt::Write>(
     }
 }
 
-// Each address of the service, and why it was not reached.
+// Writes each address of the service, and why it was not reached.
 fn write_unreached<W: fmt::Write>(f: &mut fmt::Formatter<W>, causes: &[u8]) -> fmt::Result {
     f.write_str("service not reached")?;
     let mut is_first = true;

@@ -1,5 +1,5 @@
-//! Where a server's notes go: a queue of lines, which a thread of its own writes to standard error. So no
-//! session waits for a reader of the notes.
+//! The queue of a server's notes, which a thread of its own writes to standard error. So no session
+//! waits for a reader of the notes.
 
 use crate::logfmt::push_pairs;
 use crossbeam_channel::{Receiver, Sender};
@@ -17,10 +17,10 @@ use tn_net::{Host, stamp};
 /// The target of the program's own lines about faults, such as `tn: session`, which are printed as they are.
 pub(crate) const FAULT: &str = "tn";
 
-/// How many lines wait to be written. While they are as many, a note is dropped.
+/// The most lines that wait to be written. While that many wait, a note is dropped.
 const LINES: usize = 256;
 
-/// For how many seconds the lines that wait at the end are written.
+/// The number of seconds for which the lines that wait at the end are written.
 const LAST: u64 = 1;
 
 /// The form of a note's line.
@@ -32,7 +32,7 @@ pub enum NoteFormat {
     Logfmt,
 }
 
-/// How the lines of notes look.
+/// The form of the lines of notes.
 #[derive(Clone, Copy, PartialEq, Eq)]
 pub struct NoteStyle {
     pub format: NoteFormat,
@@ -78,7 +78,7 @@ impl<H: Clock + Wait> Log for NoteSink<H> {
 /// The thread that writes the lines of a `NoteSink`.
 #[derive(Drop)]
 pub struct NoteWriter {
-    /// It is disconnected once the thread has ended.
+    /// The channel that is disconnected once the thread has ended.
     ended: Receiver<(), Global>,
     all_dropped: Arc<AtomicU64, Global>,
 }
@@ -115,7 +115,7 @@ impl NoteWriter {
         Some((sink, NoteWriter { ended, all_dropped }))
     }
 
-    /// The number of notes that were dropped since the thread began, as it goes on.
+    /// Returns the number of notes that were dropped since the thread began, as it goes on.
     pub fn dropped(&self) -> Result<Arc<AtomicU64, Global>, AllocError> {
         Arc::try_clone(&self.all_dropped)
     }
@@ -127,7 +127,7 @@ impl NoteWriter {
     }
 }
 
-// What the thread that writes has.
+// The parts of the thread that writes.
 #[derive(Drop)]
 struct Writing<H> {
     rt: H,
@@ -169,7 +169,7 @@ impl<H: Clock + Wait + Eprint + Drop> Writing<H> {
     }
 }
 
-// How many notes were dropped.
+// The number of notes that were dropped.
 #[derive(Drop)]
 struct Dropped(u64);
 
@@ -179,7 +179,7 @@ impl Display for Dropped {
     }
 }
 
-// The line of a record, with its end.
+// Makes the line of a record, with its end.
 fn line_of<H: Clock, D: Display, K: Source, S: Spans>(
     clock: &H,
     alloc: Global,
@@ -246,7 +246,8 @@ fn push_time<C: Clock>(clock: &C, alloc: Global, line: &mut String) -> Result<()
     line.push_str(str::from_utf8(&time).unwrap_or(""))
 }
 
-// The priority of a line as syslog counts them (RFC 5424, 6.2.1), as systemd's journal reads it.
+// Returns the priority of a line as syslog counts them (RFC 5424, 6.2.1), as systemd's journal
+// reads it.
 fn priority(level: Level) -> &'static str {
     match level {
         Level::Error => "<3>",

@@ -1,4 +1,4 @@
-//! The line by which a proxy says for whom it connects: the PROXY protocol, version 1.
+//! The line by which a proxy names its client: the PROXY protocol, version 1.
 
 use std::io::Read;
 use std::net::{IpAddr, SocketAddr, TcpStream};
@@ -6,14 +6,15 @@ use std::str;
 use std::time::{Clock, Duration, Instant};
 use tn_net::network::Peer;
 
-/// How many bytes the line has at most, with its CR LF.
+/// The most bytes that the line has, with its CR LF.
 const MOST: usize = 107;
 
-/// How many seconds the proxy has to send it.
+/// The number of seconds that the proxy has to send the line.
 const TIME: u64 = 1;
 
-/// For whom a proxy connects from `peer`, by the line with which the connection begins; nothing after the line
-/// is read. `peer` itself if the proxy does not know. `None` if no such line comes in time.
+/// Reads the line with which the connection begins, by which a proxy at `peer` names its client,
+/// and returns the client, or `peer` itself if the proxy does not know. Nothing after the line is
+/// read. It returns `None` if no such line comes in time.
 pub(crate) fn peer_behind<C: Clock>(clock: &C, stream: &TcpStream, peer: Peer) -> Option<Peer> {
     stream
         .set_read_timeout(Some(Duration::from_secs(TIME)))
@@ -41,7 +42,7 @@ fn read_byte(mut stream: &TcpStream) -> Option<u8> {
     }
 }
 
-/// The source that a line names, or `peer` if it names none.
+/// Returns the source that a line names, or `peer` if it names none.
 fn source_of(line: &[u8], peer: Peer) -> Option<Peer> {
     let line = line.strip_suffix(b"\r\n")?.strip_prefix(b"PROXY ")?;
     let mut words = line.split(|byte| *byte == b' ');

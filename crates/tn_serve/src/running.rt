@@ -66,7 +66,7 @@ impl<M: Maker, O: Asked<M>> Started<M, O> {
     }
 }
 
-// How many of these sessions are counted as from this host.
+// Returns the number of these sessions that are counted as from this host.
 fn count_of<M: Maker, O: Asked<M>>(started: &[Started<M, O>], host: Option<IpAddr>) -> usize
     ensures { result ≡ count_at (λ s. s.caller.peer) host started.now }
 {
@@ -120,7 +120,7 @@ impl<J: Job, M: Maker<Job = J>, O: Asked<M>> Running<J, M, O> {
         self.started.is_empty()
     }
 
-    /// Whether there is room for one more session. False when out of memory.
+    /// Returns whether there is room for one more session. False when out of memory.
     pub(crate) fn has_room(&mut self) -> bool
         ensures accepted { self.new.accepted ≡ self.old.accepted }
         ensures counts { (self.new.whole ≡ self.old.whole) × (self.new.faulted ≡ self.old.faulted)
@@ -131,7 +131,7 @@ impl<J: Job, M: Maker<Job = J>, O: Asked<M>> Running<J, M, O> {
         self.started.reserve(1).is_ok()
     }
 
-    /// Where the session with this number is, if there is one.
+    /// Returns the place of the session with this number, if there is one.
     pub(crate) fn place_of(&self, number: usize) -> Option<usize>
         ensures place { IfSome result (λ place. place < vec_len self.now.started) }
         ensures none { IfNone result (All (λ s. s.caller.number ≢ number) (vec_items self.now.started)) }
@@ -141,13 +141,13 @@ impl<J: Job, M: Maker<Job = J>, O: Asked<M>> Running<J, M, O> {
             .position(|started| started.caller.number == number)
     }
 
-    /// Who the session with this number is with, if there is one.
+    /// Returns the client of the session with this number, if there is one.
     pub(crate) fn caller_of(&self, number: usize) -> Option<Caller> {
         let place = self.place_of(number)?;
         Some(self.started[place].caller)
     }
 
-    // How many sessions are counted as from the host of this peer.
+    // Returns the number of sessions that are counted as from the host of this peer.
     fn count_from(&self, peer: &Peer) -> usize
         ensures { result ≡ count_from (λ s. s.caller.peer) peer.now
             (vec_items self.now.started) }
@@ -264,7 +264,7 @@ impl<J: Job, M: Maker<Job = J>, O: Asked<M>> Running<J, M, O> {
         self.accepted += 1;
     }
 
-    /// Counts an accepted connection that got no session, and was told so.
+    /// Counts an accepted connection that got no session, but the line `full`.
     pub(crate) fn refuse(
         &mut self,
         _roster: &Roster,
@@ -288,7 +288,7 @@ impl<J: Job, M: Maker<Job = J>, O: Asked<M>> Running<J, M, O> {
         self.accepted += 1;
     }
 
-    /// What became of the connections, once all sessions are joined.
+    /// Returns the counts of the connections, once all sessions are joined.
     pub(crate) fn served(&self) -> Served
         requires { vec_len self.now.started ≡ 0 }
         ensures accepted { result.accepted ≡ self.now.accepted }

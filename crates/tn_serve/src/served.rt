@@ -1,8 +1,8 @@
-//! How many connections were served.
+//! The counts of the connections that were served.
 
 ghost use Rattle.std.specs.Prelude.{◌≡◌, ◌+◌};
 
-/// What became of the accepted connections. Only serving makes such a value.
+/// The counts of the accepted connections. Only a call that serves makes such a value.
 #[derive(Clone, Copy, PartialEq, Eq)]
 pub struct Served {
     pub(crate) accepted: u64,
@@ -13,28 +13,30 @@ pub struct Served {
 }
 
 impl Served {
-    /// How many connections were accepted. Each is in one of the three counts below, too.
+    /// Returns the number of connections that were accepted. Each is in exactly one of the counts
+    /// `whole`, `faulted` and `refused`, too.
     pub fn accepted(self) -> u64
         ensures { result ≡ self.accepted }
     {
         self.accepted
     }
 
-    /// How many of their sessions ended without a fault.
+    /// Returns the number of connections whose sessions ended without a fault.
     pub fn whole(self) -> u64
         ensures { result ≡ self.whole }
     {
         self.whole
     }
 
-    /// How many of their sessions ended in a fault, or could not be started.
+    /// Returns the number of connections whose sessions ended in a fault, or could not be started.
     pub fn faulted(self) -> u64
         ensures { result ≡ self.faulted }
     {
         self.faulted
     }
 
-    /// How many got no session, since as many as allowed were running.
+    /// Returns the number of connections that got no session, since as many as allowed were
+    /// running.
     pub fn refused(self) -> u64
         ensures { result ≡ self.refused }
     {

@@ -1,7 +1,10 @@
-//! The jobs that `tn serve` gives each session. An answerer answers the lines, the ends of file and the
-//! signals that its user makes, and another ticks in the background. A gateway joins the session to a line
-//! service: its job in the foreground sends the service each line that the user enters, and the one in the
-//! background shows the user what the service says.
+//! The jobs that `tn serve` gives each session. An answerer answers the lines, the ends of file and
+//! the signals that its user makes, and another ticks in the background. A gateway joins the
+//! session to a line service: its job in the foreground sends the service each line that the user
+//! enters, and the one in the background shows the user the service's bytes.
+//!
+//! Begin with `Answerers`, which makes the jobs of the built-in service, or with `Joiner`, which
+//! makes those of a gateway.
 //!
 //! ```
 //! let reaction = Answerer::new(0).entry(alloc, Entry::Eof)?;
@@ -10,9 +13,10 @@
 //! let jobs = Greeting::new(jobs, Text::from(words)); // whose user reads these words first
 //! ```
 //!
-//! They know of no terminal: a session hands them what was typed. A gateway waits for nobody but its reader
-//! and its writer. A session ends its jobs; the end of the service ends the job in the background alone, so
-//! that whoever owns the session's connection hangs up, as a `Joiner` does by its hook.
+//! The jobs have no link to a terminal: a session passes them the typed entries. A gateway waits
+//! only for its reader and its writer. A session ends its jobs. The end of the service ends only
+//! the job in the background, so the owner of the session's connection hangs up, as a `Joiner` does
+//! by its hook.
 
 pub use answerers::Answerers;
 pub use answering::Answerer;

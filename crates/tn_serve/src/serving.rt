@@ -1,4 +1,4 @@
-//! Each connection has a session in threads of its own.
+//! Gives each connection a session in threads of its own.
 
 ghost use Rattle.std.specs.Prelude.{◌≡◌, ◌⊎◌, ◌<◌, ◌≤◌, ◌+◌, ◌^◌, ◌-◌, true, IsTrue, IfOk, IfSome, IfNone};
 ghost use Rattle.std.specs.Prelude.{[], ◌∷◌, IsErrOf, Ok, map, vec_items, vec_len};
@@ -42,18 +42,30 @@ use tn_net::network::{Network, Peer};
 use tn_net::{Hook, Host, Standing};
 use tn_session::roster::Roster;
 
-/// How many events wait at most for the loop.
+/// The most events that wait for the loop.
 const EVENTS: usize = 16;
 
-/// Serves each of these places, which are addresses, or names that have one, paths, or a socket that is handed
-/// in, until so many connections were accepted, or `until` tells that no more are to come, and all their sessions have ended. Each connection has
-/// a session in threads of its own, with the jobs that the service makes for it, as long as there are no more
-/// of them, and no more from its host, than there may be; one more is told `full` and closed. Once `until`
-/// says so, sessions have `serving.drain` seconds to end; then their last words are `closing`. `log` gets a
-/// record of each event: a warning for a session that ends in a fault, after an error `tn: session`. If it
-/// cannot listen at one, nothing is served, and `causes` gets a line. Each session runs as `serve_connection` runs one; the clauses below
-/// count them, and say what the network was asked for. None makes it ask `until`. It takes eight, since what
-/// is lent and what is given here go together nowhere else.
+/// Serves each of these places until `serving.count` connections were accepted, or `until` reports
+/// that no more are to come, and all their sessions have ended. A place is an address or a name
+/// that has one, a path, or a socket that is handed in.
+///
+/// Each connection has a session in threads of its own, with the jobs that the service makes for
+/// it, as long as there are no more sessions, and no more from its host, than there may be; a
+/// connection beyond that gets the line `full` and is closed. Once `until` reports that no more are
+/// to come, sessions have `serving.drain` seconds to end; then their last words are `closing`.
+/// `log` gets a record of each event: a warning for a session that ends in a fault, after an error
+/// `tn: session`.
+///
+/// Each session runs as `serve_connection` runs one; the clauses count the sessions, and say for
+/// what the network was asked. No clause promises that `until` is asked. It takes eight arguments,
+/// since what is lent and what is given go together nowhere else.
+///
+/// # Errors
+///
+/// - `Limit`: `serving.sessions` is not from 1 to 64.
+/// - `Network`: it cannot listen at one of the places, and then nothing is served and `causes` gets
+///   a line; or a listener broke.
+/// - `Memory`: there is no memory.
 pub fn serve<H, U, V, L>(
     rt: H,
     alloc: Global,
@@ -84,8 +96,14 @@ where
     serve_as::<H, U, V, L, Brand>(rt, alloc, &listeners, serving, until, service, log)
 }
 
-/// Serves an existing listener, as `serve` does one of its own, until so many connections were accepted, or
-/// `until` reports that no more are to come, and all their sessions have ended.
+/// Serves an existing listener, as `serve` does one of its own, until `serving.count` connections
+/// were accepted, or `until` reports that no more are to come, and all their sessions have ended.
+///
+/// # Errors
+///
+/// - `Limit`: `serving.sessions` is not from 1 to 64; nothing is served.
+/// - `Network`: the listener broke.
+/// - `Memory`: there is no memory.
 pub fn serve_on<H, U, V, L>(
     rt: H,
     alloc: Global,
@@ -116,7 +134,7 @@ where
     serve_as::<H, U, V, L, Brand>(rt, alloc, listeners, serving, until, service, log)
 }
 
-// The same, for contracts that know the options of its sessions.
+// Serves the connections of listeners, for contracts that name the options of its sessions.
 fn serve_as<
     H: Host + Network,
     U: Until + Drop + Send + 'static,
@@ -204,7 +222,7 @@ fn accepting<H: Host + Network, U: Until + Drop + Send + 'static>(
     }
 }
 
-// One more handle of each of these listeners.
+// Returns one more handle of each of these listeners.
 fn share_each<N: Network>(
     net: &N,
     alloc: Global,
@@ -220,7 +238,7 @@ fn share_each<N: Network>(
     Ok(ours)
 }
 
-// What became of the connections, where as many were accepted as were served, and enough.
+// Returns the counts of the connections, if as many were accepted as were served, and enough.
 fn agreed(served: Served, accepted: Accepted, count: u64) -> Result<Served, ServeFault>
     ensures served { IfOk result (λ agreed. agreed ≡ served) }
     ensures accepted { IfOk result (λ agreed. agreed.accepted ≡ accepted.count) }
@@ -236,11 +254,11 @@ fn agreed(served: Served, accepted: Accepted, count: u64) -> Result<Served, Serv
     Ok(served)
 }
 
-/// What a session that is to start needs beside its jobs.
+/// The parts that a session which is to start needs besides its jobs.
 #[derive(Drop)]
 struct Prepared {
     call: Call,
-    /// By it the session says that it has ended.
+    /// The handle by which the session sends that it has ended.
     end: Notes,
     standing: Arc<Standing, Global>,
     traffic: Arc<Traffic, Global>,
@@ -257,7 +275,7 @@ struct Open<H, V: Service, O: Asked<V::Jobs>> {
     service: V,
     roster: Roster,
     running: Running<V::Job, V::Jobs, O>,
-    /// No more connections come.
+    /// Whether no more connections come.
     is_closed: bool,
     events: Sender<Event, Global>,
     turned_away: TurnedAway,
@@ -267,8 +285,9 @@ struct Open<H, V: Service, O: Asked<V::Jobs>> {
 }
 
 impl<H: Host + Network, V: Service, O: Asked<V::Jobs>> Open<H, V, O> {
-    // Serves the connections of these listeners, which a thread of its own accepts, until there were as many as
-    // it was asked for, or `until` tells that no more are to come, and each session has ended.
+    // Serves the connections of these listeners, which a thread of its own accepts, until there
+    // were as many as it was asked for, or `until` reports that no more are to come, and each
+    // session has ended.
     fn serve_listeners<U: Until + Drop + Send + 'static, L: Log>(
         &mut self,
         listeners: &[TcpListener],
@@ -368,7 +387,7 @@ impl<H: Host + Network, V: Service, O: Asked<V::Jobs>> Open<H, V, O> {
         }
     }
 
-    // Whether no more connections are to come, and each session has ended and is joined.
+    // Returns whether no more connections are to come, and each session has ended and is joined.
     fn is_done(&self) -> bool
         ensures { IsTrue result → vec_len self.now.running.started ≡ 0 }
     {
@@ -411,7 +430,8 @@ impl<H: Host + Network, V: Service, O: Asked<V::Jobs>> Open<H, V, O> {
         note_texts::closed(log);
     }
 
-    // Starts a session over a connection that came, or turns it away where the session limit is reached.
+    // Starts a session over a connection that came, or turns it away if the session limit is
+    // reached.
     fn admit<L: Log>(&mut self, stream: TcpStream, peer: &Peer, log: &L)
         requires makes { MakesOnly V.makes self.old.service O.made }
         requires turns { TurnsAway (H.dismisses self.old.rt) O.turned }
@@ -459,7 +479,7 @@ impl<H: Host + Network, V: Service, O: Asked<V::Jobs>> Open<H, V, O> {
         self.take_in(stream, caller, log);
     }
 
-    // Notes that a line of a session may have been cut.
+    // Notes that a line of a session may have been truncated.
     fn tell_cut<L: Log>(&self, number: usize, bytes: usize, log: &L) {
         if let Some(caller) = self.running.caller_of(number) {
             note_texts::cut(log, &caller, bytes);
@@ -473,7 +493,7 @@ impl<H: Host + Network, V: Service, O: Asked<V::Jobs>> Open<H, V, O> {
         }
     }
 
-    // Tells a connection that there is no room for it.
+    // Sends a connection the line `full`, since there is no room for it.
     fn turn_away(&mut self, stream: TcpStream, peer: &Peer)
         requires turns { TurnsAway (H.dismisses self.old.rt) O.turned }
         requires full { HasNoPlace self.old.roster self.old.serving.per_host
@@ -538,7 +558,7 @@ impl<H: Host + Network, V: Service, O: Asked<V::Jobs>> Open<H, V, O> {
         self.running.keep(session);
     }
 
-    // The session with this number could not be started, and its number is free.
+    // Gives up the session with this number, which could not be started; its number is free.
     fn give_up<L: Log>(&mut self, caller: &Caller, log: &L)
         requires held { vec_len self.old.running.started < held_count self.old.roster }
         requires more { self.old.running.accepted < 2 ^ 64 - 1 }
@@ -572,7 +592,7 @@ impl<H: Host + Network, V: Service, O: Asked<V::Jobs>> Open<H, V, O> {
         );
     }
 
-    // Runs a session in a thread of its own, where one can be had.
+    // Runs a session in a thread of its own, if one can be had.
     fn start(&mut self, stream: TcpStream, caller: Caller) -> Option<Started<V::Jobs, O>>
         requires makes { MakesOnly V.makes self.old.service O.made }
         ensures running { self.new.running ≡ self.old.running }
@@ -619,7 +639,7 @@ impl<H: Host + Network, V: Service, O: Asked<V::Jobs>> Open<H, V, O> {
         None
     }
 
-    // The session with this number has ended.
+    // Ends the session with this number.
     fn end<L: Log>(&mut self, number: usize, log: &L)
         ensures each { StillCounts (server_of
             (facts_of V.Job.fresh V.Jobs.gives V.Job.reacts V.Job.steps V.Job.refuses) V.Jobs.left O.options
@@ -644,7 +664,7 @@ impl<H: Host + Network, V: Service, O: Asked<V::Jobs>> Open<H, V, O> {
         self.end_at(place, log);
     }
 
-    // The session at this place has ended, and its number is free.
+    // Joins the session at this place, which has ended; its number is free.
     fn end_at<L: Log>(&mut self, place: usize, log: &L)
         requires { place < vec_len self.old.running.started }
         ensures each { StillCounts (server_of
@@ -711,7 +731,7 @@ impl<H: Host + Network, V: Service, O: Asked<V::Jobs>> Open<H, V, O> {
     }
 }
 
-// Notes how a session ended. One that ended in a fault is also told in a line of the program's own.
+// Notes how a session ended. For one that ended in a fault, the program's own line is printed too.
 fn tell_end<L: Log>(log: &L, end: &SessionEnd<'_>) {
     if !end.finished.is_whole() {
         note_texts::fault(log);
@@ -719,7 +739,7 @@ fn tell_end<L: Log>(log: &L, end: &SessionEnd<'_>) {
     note_texts::ended(log, end);
 }
 
-// What a session that is to start needs beside its jobs.
+// Makes the parts that a session which is to start needs besides its jobs.
 fn prepare(alloc: Global, events: &Sender<Event, Global>, caller: &Caller) -> Option<Prepared>
     ensures { IfSome result (λ prepared. prepared.call.number ≡ caller.now.number) }
 {
@@ -734,7 +754,7 @@ fn prepare(alloc: Global, events: &Sender<Event, Global>, caller: &Caller) -> Op
     })
 }
 
-// What a service is told of a connection that is to have a session.
+// Makes the description of a connection that is to have a session, for its service.
 fn call_of(
     events: &Sender<Event, Global>,
     caller: &Caller,
@@ -753,7 +773,7 @@ fn call_of(
     })
 }
 
-// By what something is noted of a session.
+// Makes the handle by which something is noted of a session.
 fn notes_of(events: &Sender<Event, Global>, caller: &Caller) -> Option<Notes> {
     Some(Notes {
         events: events.clone().ok()?,
@@ -761,7 +781,7 @@ fn notes_of(events: &Sender<Event, Global>, caller: &Caller) -> Option<Notes> {
     })
 }
 
-// What happens next at a server, in this time where there is one.
+// Returns the next event at a server, within this time if there is one.
 fn next_event<H: Host>(
     rt: &H,
     events: &Receiver<Event, Global>,

@@ -40,7 +40,8 @@ where
     M: Maker + Drop + Send + 'static,
     M::Job: Send + 'static,
 {
-    /// Runs it in a thread of its own, if one can be had, which says at last that it has ended.
+    /// Runs the session in a thread of its own, if one can be had, which at last sends that it has
+    /// ended.
     pub(crate) fn start<E: SaysEnd + Drop + Send + 'static>(
         self,
         end: E,
@@ -71,7 +72,7 @@ where
     }
 }
 
-/// What the thread of a session promises of what it gives back.
+/// The promise of the thread of a session, about what it gives back.
 #[derive(Drop)]
 pub(crate) struct SessionSays<M> {
     pub(crate) jobs: Snapshot<M>,
@@ -161,7 +162,7 @@ where
     })
 }
 
-// The reading side of a connection, which ends it as `options` say.
+// Makes the reading side of a connection, which ends it as `options` say.
 fn reader_of<H: Host>(
     rt: H,
     alloc: Global,
@@ -182,7 +183,7 @@ fn reader_of<H: Host>(
     }
 }
 
-// The writing side of a connection, to which nothing is written yet.
+// Makes the writing side of a connection, to which nothing is written yet.
 fn writer_of(
     writer: Connection<TcpStream>,
     standing: &Arc<Standing, Global>,
@@ -255,8 +256,9 @@ where
     )
 }
 
-// Reads what a peer still sends after it was told that no more comes, until it has closed or had its time to.
-// A connection that is closed here before that could lose what was sent last.
+// Reads the bytes that a peer still sends after it got the end of the stream, until it has closed
+// or its time is over. If the connection were closed before that, the bytes that were sent last
+// could be lost.
 fn linger<H: Host>(rt: H, alloc: Global, stream: TcpStream, standing: &Arc<Standing, Global>) {
     let Ok(standing) = another(standing) else {
         return;
@@ -267,8 +269,15 @@ fn linger<H: Host>(rt: H, alloc: Global, stream: TcpStream, standing: &Arc<Stand
     }
 }
 
-/// Runs one session over a connection that was accepted, in threads of its own, until it has ended. `jobs`
-/// makes its jobs. What is returned tells contracts all that was read from the connection and written to it.
+/// Runs one session over a connection that was accepted, in threads of its own, until it has ended.
+/// `jobs` makes its jobs. The result shows contracts all that was read from the connection and
+/// written to it.
+///
+/// # Errors
+///
+/// - `Memory`: there is no memory for the session or a job.
+/// - `Start`: a thread cannot be started, or `jobs` has no first job.
+/// - `Channel`: the other end of a channel is gone.
 pub fn serve_connection<H, M>(
     rt: H,
     alloc: Global,

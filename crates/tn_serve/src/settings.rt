@@ -1,4 +1,4 @@
-//! How to serve.
+//! The options of a server and of its sessions.
 
 ghost use Rattle.std.specs.Prelude.{◌≡◌, IsFalse};
 ghost use Rattle.tn_discipline.specs.Limits.{standard_limit};
@@ -6,22 +6,23 @@ ghost use Rattle.tn_discipline.specs.Limits.{standard_limit};
 use tn_discipline::Limit;
 use tn_server::Editing;
 
-/// What is the same of all sessions of a server.
+/// The options that all sessions of a server share.
 #[derive(Clone, Copy, PartialEq, Eq)]
 pub struct SessionOptions {
-    /// How many bytes a line has at most.
+    /// The most bytes that a line has, from 255 to 4,095.
     pub line_limit: Limit,
-    /// Which side the client is asked to edit at.
+    /// The side at which the client is asked to edit.
     pub editing: Editing,
-    /// After how many seconds in which the client sends nothing that reaches the terminal a session ends as
-    /// by a hang-up, or 0 for never.
+    /// The number of seconds after which a session ends as by a hang-up, if the client sends
+    /// nothing in them that reaches the terminal; 0 for never.
     pub idle: u32,
-    /// After how many seconds a session ends as by a hang-up, or 0 for never.
+    /// The number of seconds after which a session ends as by a hang-up; 0 for never.
     pub longest: u32,
 }
 
 impl SessionOptions {
-    /// Lines of the standard limit, which the server edits, from clients that may be silent for ever.
+    /// Makes the standard options: lines of the standard limit, which the server edits, and no
+    /// limit of time.
     pub fn standard() -> SessionOptions
         ensures line_limit { result.line_limit ≡ standard_limit }
         ensures editing { result.editing ≡ Editing.Remote }
@@ -37,38 +38,38 @@ impl SessionOptions {
     }
 }
 
-/// How to serve.
+/// The options of a server.
 #[derive(Clone, Copy, PartialEq, Eq)]
 pub struct Serving {
-    /// How many sessions there may be at once, of 1 to 64.
+    /// The most sessions at once, of 1 to 64.
     pub sessions: u16,
-    /// How many of them there may be from one host, of 1 to 64.
+    /// The most sessions at once from one host, of 1 to 64.
     pub per_host: u16,
-    /// After how many accepted connections to end.
+    /// The number of accepted connections after which to end.
     pub count: u64,
-    /// How many seconds sessions have to end once no more connections are to come, or 0 for as many as they
-    /// want. Then their last words are `closing`.
+    /// The number of seconds that sessions have to end once no more connections are to come; 0 sets
+    /// no limit. After it their last words are `closing`.
     pub drain: u32,
-    /// Whether each connection is of a proxy, and begins with a line that says for whom (the PROXY protocol,
-    /// version 1). One that has no such line within a second is closed.
+    /// Whether each connection is of a proxy, and begins with a line that names its client (the
+    /// PROXY protocol, version 1). A connection that has no such line within a second is closed.
     pub is_proxied: bool,
-    /// Whether others have the listener too, as one that the process was started with. It is left to them as
-    /// it is.
+    /// Whether others have the listener too, as one with which the process was started. It is left
+    /// to them as it is.
     pub is_handed: bool,
     pub options: SessionOptions,
 }
 
-/// How many sessions there may be at once if nothing else is asked for, and how many from one host: as many as
-/// there may be of all.
+/// The most sessions at once if nothing else is asked for; from one host there may be as many as of
+/// all.
 const SESSIONS: u16 = 8;
 
 const PER_HOST: u16 = 64;
 
-/// How many seconds sessions have to end, if nothing else is asked for.
+/// The number of seconds that sessions have to end, if nothing else is asked for.
 const DRAIN: u32 = 5;
 
 impl Serving {
-    /// One connection, with the standard options.
+    /// Makes the options for one connection, with the standard options of a session.
     pub fn standard() -> Serving
         ensures sessions { result.sessions ≡ 8 }
         ensures per_host { result.per_host ≡ 64 }

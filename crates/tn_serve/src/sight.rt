@@ -1,4 +1,4 @@
-//! What the jobs of a session see of its threads.
+//! The facts of a session that its jobs see.
 
 use std::alloc::Global;
 use std::sync::Arc;

@@ -1,4 +1,4 @@
-//! What passes over a connection, as a note tells it.
+//! The traffic of a connection, as a note shows it.
 
 use std::alloc::{AllocError, Global};
 use std::io;
@@ -8,7 +8,7 @@ use std::sync::atomic::{AtomicI32, AtomicU64, Ordering};
 use tn_cores::streams::{Drain, Finish, Source};
 use tn_net::Standing;
 
-/// What has passed over a connection so far.
+/// The counts of the bytes that have passed over a connection so far.
 #[derive(Drop)]
 pub(crate) struct Traffic {
     came: AtomicU64,
@@ -17,7 +17,7 @@ pub(crate) struct Traffic {
     broke: AtomicI32,
 }
 
-/// How much passed over a connection, and what broke it.
+/// The number of bytes that passed over a connection, and the error that broke it.
 #[derive(Clone, Copy)]
 pub(crate) struct Passed {
     pub(crate) came: u64,
@@ -26,7 +26,7 @@ pub(crate) struct Passed {
 }
 
 impl Traffic {
-    /// Nothing has passed yet.
+    /// Makes the counts of a connection over which nothing has passed yet.
     pub(crate) fn new(alloc: Global) -> Result<Arc<Traffic, Global>, AllocError> {
         let traffic = Traffic {
             came: AtomicU64::new(0),
@@ -49,12 +49,12 @@ impl Traffic {
         }
     }
 
-    /// So many more bytes went.
+    /// Counts this number of bytes that were sent.
     pub(crate) fn count_went(&self, bytes: usize) {
         let _ = self.went.fetch_add(bytes as u64, Ordering::SeqCst);
     }
 
-    // One that is only interrupted is asked again.
+    // Notes the error that broke the connection. A call that was only interrupted is made again.
     fn fail(&self, error: &io::Error) {
         if error.kind() != ErrorKind::Interrupted {
             self.broke
@@ -63,7 +63,7 @@ impl Traffic {
     }
 }
 
-/// What is known of a session for the note of its end.
+/// The known facts of a session for the note of its end.
 #[derive(Drop)]
 pub(crate) struct Noted {
     pub(crate) traffic: Arc<Traffic, Global>,
@@ -71,7 +71,7 @@ pub(crate) struct Noted {
 }
 
 impl Noted {
-    /// What is known of a session with these, where there is memory for it.
+    /// Makes the known facts of a session, if there is memory for them.
     pub(crate) fn of(
         traffic: &Arc<Traffic, Global>,
         standing: &Arc<Standing, Global>,
@@ -84,7 +84,7 @@ impl Noted {
 }
 
 impl Passed {
-    /// Nothing has passed.
+    /// Makes the counts of a connection over which nothing has passed.
     pub(crate) fn nothing() -> Passed {
         Passed {
             came: 0,

@@ -5,14 +5,14 @@ use std::collections::VecDeque;
 use std::net::TcpStream;
 use std::time::{Clock, Duration, Instant};
 
-/// For how many seconds such a connection is kept open. One that is closed at once could lose the word that
-/// it was told, where its peer sends something.
+/// The number of seconds for which such a connection is kept open. If it were closed at once, its
+/// peer could lose the line `full`, should it send something.
 const OPEN: u64 = 1;
 
-/// How many of them are kept open at most.
+/// The most of them that are kept open.
 const KEPT_OPEN: usize = 16;
 
-/// A connection that was told that there is no room, and when.
+/// A connection that got the line `full`, and when.
 #[derive(Drop)]
 struct Turned {
     _stream: TcpStream,
@@ -20,7 +20,7 @@ struct Turned {
 }
 
 impl Turned {
-    // Whether it had its time. Without a clock it has had it.
+    // Returns whether it had its time. Without a clock it has had it.
     fn is_past<C: Clock>(&self, clock: &C) -> bool {
         match self.since.map(|since| since.elapsed(clock)) {
             Some(Ok(time)) => time.as_secs() >= OPEN,
@@ -29,7 +29,7 @@ impl Turned {
     }
 }
 
-/// Connections that were told so, for their peers to close.
+/// Connections that got the line `full`, and are kept open for their peers to close.
 #[derive(Drop)]
 pub(crate) struct TurnedAway {
     kept: VecDeque<Turned>,
@@ -42,7 +42,7 @@ impl TurnedAway {
         }
     }
 
-    /// Keeps one more. The first of them is closed for it, where there are many.
+    /// Keeps one more. If there are many, the first of them is closed for it.
     pub(crate) fn keep<C: Clock>(&mut self, clock: &C, stream: TcpStream) {
         if self.kept.len() >= KEPT_OPEN {
             self.kept.pop_front();

@@ -1,14 +1,14 @@
-//! What a service does and hears, for contracts.
+//! The calls of a service, for contracts.
 
 use crate::finished::Finished;
 
 /// A call of a service, as contracts list them. When it runs nothing makes one.
 #[derive(Drop)]
 pub enum Turn {
-    /// It made the jobs of the session with this number.
+    /// The service made the jobs of the session with this number.
     Made(usize),
-    /// It had no memory for them.
+    /// The service had no memory for the jobs of the session with this number.
     Refused(usize),
-    /// It heard that the session with this number has ended so.
+    /// The service got the end of the session with this number.
     Ended(usize, Finished),
 }

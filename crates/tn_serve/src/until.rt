@@ -1,19 +1,20 @@
-//! What ends a server before its count.
+//! The condition that ends a server before its count.
 
 ghost use Rattle.std.specs.Prelude.{◌≡◌, IsTrue};
 
-/// Who is asked whether a server is to accept no more connections: before each of them, and about once a
-/// second. It is asked in the thread that accepts. Of what it tells nothing else gives the relation.
+/// A condition that ends a server before its count: it is asked whether no more connections are to
+/// be accepted, before each of them, and about once a second, in the thread that accepts. Only its
+/// answers give the relation `ends`.
 pub trait Until {
-    // it told that no more are to come
+    // the condition answered that no more are to come
     ghost ends: { Self → Type 0 };
 
-    /// Whether no more connections are to come.
+    /// Returns whether no more connections are to come.
     fn is_over(&self) -> bool
         ensures { IsTrue result → ends self.now };
 }
 
-/// Nothing ends a server before its count.
+/// A condition that is never met: nothing ends a server before its count.
 #[derive(Clone, Copy, Drop)]
 pub struct Never;
 
@@ -25,7 +26,7 @@ impl Until for Never {
     }
 }
 
-/// Where there is none, nothing ends it.
+/// A condition that may be absent. If it is, nothing ends the server before its count.
 impl<U: Until> Until for Option<U> {
     ghost use Rattle.tn_serve.specs.Ends.{IfAny};
 

@@ -1,4 +1,4 @@
--- The server says nothing to what a client answered.
+-- The server does not reply to a client's answers.
 use Rattle.std.proofs.Common.{◌≡◌, ℕ, Bool, true, false, ◌&&◌, nat_le, Some, None, List, [], ◌++◌, length, refl, ◌∙◌, ap, if◌then◌else◌}
 use Rattle.tn_codes.specs.{PayloadOf.payload_of, Payloads.parameters_of, declared.{payloads.Payload.TheVariants.Slc, triples.Triple.Triple}}
 use Rattle.tn_codes.proofs.lemmas.Telling.{told}
@@ -14,7 +14,7 @@ module _ (h : History) (ts : List Triple) (none : (c : Characters) → server_an
   abbrev params : List ℕ
   params = parameters_of (Slc ts)
 
-  -- what is read of it, if something is
+  -- the payload that is read of it, if one is
   read_of : payload_of 34 params ≡ Some (Slc ts)
   read_of = told 34 params (Slc ts) (refl, refl)
 

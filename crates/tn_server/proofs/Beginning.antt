@@ -6,7 +6,7 @@ use Rattle.tn_option.specs.Options.{Options}
 use Rattle.tn_pty.specs.Terminal.{new_terminal}
 use Rattle.tn_server.specs.{Events.begun, Terms.{opening_options, linemode, asked_mask_while}, Calls.{End, LeadsTo}}
 
--- with no wish nothing is asked
+-- without a request nothing is asked
 pub nothing_asked : (on : Bool) → asked_mask_while on 0 ≡ 0
 nothing_asked true = refl
 nothing_asked false = refl

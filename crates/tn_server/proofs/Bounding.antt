@@ -1,4 +1,4 @@
--- How much a server end sends at most.
+-- The most bytes that a server end sends.
 use Rattle.std.proofs.Common.{◌≡◌, ◌≢◌, ℕ, ◌+◌, ◌*◌, ◌≤◌, ◌==◌, nat_le, Bool, true, false, not, ◌&&◌, ◌||◌, Option, Some, None, Result, Ok, Err, List, [], ◌∷◌}
 use Rattle.std.proofs.{Common.{◌++◌, length, map, take, drop, refl, sym, ◌∙◌, ap, arith, if◌then◌else◌, length-take, take-append-drop}, lemmas.Nat.and_le_r}
 use Rattle.std.proofs.lemmas.List.{map-append, length-map}
@@ -28,7 +28,7 @@ use Rattle.tn_server.specs.Replies.{asked_word_items, table_items, new_table_ite
 use Rattle.tn_server.specs.{Replies.{data_of, replies, items_said}, declared.wishes.Editing.Editing}
 use Rattle.tn_server.proofs.lemmas.Terms.{differ_self, told_again, table_again, says_nothing, echo_keeps_linemode}
 
--- WHAT IS SAID, part by part
+-- ITS REPLIES, part by part
 size-asked : (r : Result (Option (Verb × ℕ)) AskFault) → size (asked_word_items r) ≤ 3
 size-asked (Ok said) = size-word said
 size-asked (Err fault) = omega arith
@@ -49,7 +49,7 @@ size-sent : (on : Bool) (before wish : ℕ) → size (mode_items (mode_sent on b
 size-sent true before wish = size-told (mode_of wish == before) wish
 size-sent false before wish = omega arith
 
--- what follows from new options, a wish or a flag
+-- the items that follow from new options, a request or a flag
 size-by : (f : Flags) (c : Characters) (t : Terms) (o : Options) (editing : Option Editing) (set : Bool)
     → size (items_by f c t o editing set) ≤ size (new_table_items (linemode t.options) (linemode o) c) + 10
 size-by f c t o editing set =
@@ -63,7 +63,7 @@ size-by f c t o editing set =
       size-echo (asks_echo t.options o (mask_told t o wish) set) (wants_echo (asked_mask_of o wish) f) o,
     )
 
--- where LINEMODE stays as it was
+-- if LINEMODE stays as it was
 size-by_same : (f : Flags) (c : Characters) (t : Terms) (editing : Option Editing) (set : Bool) → size (items_by f c t t.options editing set) ≤ 10
 size-by_same f c t editing set =
     omega (arith, size-by f c t t.options editing set, ap size (table_again (linemode t.options) c))
@@ -72,27 +72,27 @@ says_none : (f : Flags) (c : Characters) (t : Terms) (o : Options) → linemode 
 says_none f c t o e =
     rw (e, told_again (linemode t.options) t.wish, differ_self (linemode t.options), table_again (linemode t.options) c) refl
 
--- where it goes off
+-- if it goes off
 says_off : (f : Flags) (c : Characters) (t : Terms) (o : Options) → linemode o ≡ false → size (items_by f c t o None false) ≤ 3
 says_off f c t o e =
     let echo = echo_items (asks_echo t.options o None false) (wants_echo (asked_mask_of o t.wish) f) o in
     let is : items_by f c t o None false ≡ echo = rw e refl in
     omega (arith, ap size is, size-echo (asks_echo t.options o None false) (wants_echo (asked_mask_of o t.wish) f) o)
 
--- where the flag ECHO is set
+-- if the flag ECHO is set
 size-set : (f : Flags) (c : Characters) (t : Terms) → size (items_by f c t t.options None true) ≤ 3
 size-set f c t =
     let echo = echo_items (asks_echo t.options t.options None true) (wants_echo (asked_mask_of t.options t.wish) f) t.options in
     let is : items_by f c t t.options None true ≡ echo = rw (told_again (linemode t.options) t.wish, table_again (linemode t.options) c) refl in
     omega (arith, ap size is, size-echo (asks_echo t.options t.options None true) (wants_echo (asked_mask_of t.options t.wish) f) t.options)
 
--- the word for ECHO changes nothing at LINEMODE
+-- the message for ECHO changes nothing at LINEMODE
 linemode_kept : (f : Flags) (t : Terms) (o : Options) (editing : Option Editing) (set : Bool) → linemode (terms_by f t o editing set).options ≡ linemode o
 linemode_kept f t o editing set =
     let wish = wish_after f t.wish editing in
     echo_keeps_linemode (asks_echo t.options o (mask_told t o wish) set) (wants_echo (asked_mask_of o wish) f) o
 
--- AN OPTION WORD. What it is answered by is paid by it, and by LINEMODE that was off before.
+-- AN OPTION MESSAGE pays for the reply to it, with LINEMODE that was off before.
 abbrev credit : Bool → ℕ
 credit true = 0
 credit false = 16
@@ -146,7 +146,7 @@ module _ (stays : (c : Characters) (ts : List Triple) → AreAllowed c → AreAl
         size-table_items (server_is_asked ts) (server_after c ts) (stays c ts allowed),
       )
 
-  -- any other says at most a MODE and a word for ECHO
+  -- the end answers any other subnegotiation with at most a MODE and a message for ECHO
   said_besides : (f : Flags) (c : Characters) (t : Terms) (option : ℕ) (params : List ℕ) → list_replies c (payload_at t.options (Sub option params)) ≡ []
       → size (items_at f c t (got (Sub option params)) ++ list_replies c (payload_at t.options (Sub option params))) ≤ length (spelling (Sub option params))
       + 30
@@ -160,7 +160,7 @@ module _ (stays : (c : Characters) (ts : List Triple) → AreAllowed c → AreAl
         size-least option params,
       )
 
-  -- what is said to it is no longer than it is and the whole table
+  -- the reply to it is no longer than it is and the whole table
   said_to : (f : Flags) (c : Characters) (t : Terms) (option : ℕ) (params : List ℕ) (p : Option Payload) → AreAllowed c
       → payload_at t.options (Sub option params) ≡ p
       → size (items_at f c t (got (Sub option params)) ++ list_replies c (payload_at t.options (Sub option params))) ≤ length (spelling (Sub option params))
@@ -339,7 +339,7 @@ credit_most : (on : Bool) → credit on ≤ 16
 credit_most true = omega arith
 credit_most false = omega arith
 
--- what an event adds
+-- the bytes that an event adds
 grows : (h : History) (e : Event) (gain : ℕ) → size (replies h e) + size (map data_of (queue (next h e)))
     + credit (linemode (options (next h e))) ≤ size (map data_of (queue h)) + gain + credit (linemode (options h))
     → bytes_due (next h e) + credit (linemode (options (next h e))) ≤ bytes_due h + gain + credit (linemode (options h))
@@ -426,7 +426,7 @@ weight-most _ fits = omega arith
 is_weight : IsWeight weight 9
 is_weight = record { spelled = weight-most; alone = omega arith }
 
--- what is sent, or waits to be, for the bytes of a stream
+-- the bytes that are sent, or wait to be, for the bytes of a stream
 pub sent_at_most : ((c : Characters) (ts : List Triple) → AreAllowed c → AreAllowed (server_after c ts))
     → ((c : Characters) (t a : Triple) → AreAllowed c → server_answer c t ≡ Some a → Answers t a)
     → ((c : Characters) (f : Func) (v : Option ℕ) → AreAllowed c → char_fault c f v ≡ None → AreAllowed (with_slot c f v))

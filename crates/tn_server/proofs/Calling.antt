@@ -1,4 +1,4 @@
--- Where the owner's calls lead.
+-- The ends to which the owner's calls lead.
 use Rattle.std.proofs.Common.{◌≡◌, ℕ, ◌+◌, nat_lt, Bool, true, false, not, ◌&&◌, ◌||◌, Option, Some, None, is_some, List, [], ◌∷◌, ◌++◌, length, take, drop}
 use Rattle.std.proofs.{Common.{refl, sym, ap, ◌∙◌, subst, arith, append-nil, append_assoc, length-append, if◌then◌else◌}, lemmas.Bool.{lt-ltb, le-ltb}}
 use Rattle.tn_codes.specs.declared.{codes.{Func.Func, Command.TheVariants.Ga}, masks.Mask.Mask}
@@ -38,7 +38,7 @@ stands_wrote h old bytes s = record {
         → p ++ output_symbols x.flags (take (fitting_count p bytes) bytes) ≡ q ++ output_symbols y.flags (take (fitting_count q bytes) bytes)
     written x y p q a b = rw (a, b) refl
 
--- so many bytes of it
+-- this number of the bytes of an OUTPUT is written
 pub written_some : (old : End) (new : Terminal) (n : ℕ) (bytes : List ℕ) → n ≡ fitting_count old.terminal.queue bytes
     → new ≡ record (old.terminal) { queue = old.terminal.queue ++ output_symbols old.terminal.settings.flags (take n bytes) }
     → record old { terminal = new } ≡ end_after_write old bytes
@@ -110,7 +110,7 @@ replies_took h old [] is s =
 replies_took h old (r ∷ rest) is s =
     rw (some_left s.read rest r (taken_count h) (entries h) s.count (s.waits ∙ ap (λ (xs : List Entry). s.read ++ xs) is)) refl
 
--- what the code makes of it
+-- the code's result
 pub taken_some : (old : End) (new : Terminal) (r : Entry) → old.terminal.entries ≡ r ∷ new.entries → new ≡ record (old.terminal) { entries = new.entries }
     → record old { terminal = new } ≡ end_after old took
 taken_some old new r first is = ap (λ (t : Terminal). record old { terminal = t }) is ∙ ap (end_after_take old) (sym first)
@@ -161,7 +161,7 @@ or_false false = refl
 pub pulled_none : (old : End) → old ≡ end_after_pull old 0
 pulled_none old = ap (λ (b : Bool). record old { pulled = b }) (sym (or_false old.pulled))
 
--- A WISH changes the terms alone
+-- A REQUEST changes only the terms
 stands_wished : (h : History) (old : End) (editing : Editing) → LeadsTo h old
     → LeadsTo (next h (wished editing)) (with_all old (terms_by old.terminal.settings.flags old.terms old.terms.options (Some editing) false) None old.terminal)
 stands_wished h old editing s =

@@ -1,4 +1,4 @@
--- What a server end did while it was lent to its decoder.
+-- The effects on a server end of being lent to its decoder.
 use Rattle.std.proofs.Common.{◌≡◌, ◌↔◌, inl, inr, true, false, ℕ, List, [], ◌∷◌, ◌++◌, map, Result, Err, OnOk, IsErrOf, refl, sym, ap, ◌∙◌, append-nil, append_assoc, subst}
 use Rattle.std.proofs.lemmas.List.{map-append}
 use Rattle.tn_nvt.specs.{Spelling.spells, Sinks.{TakesEach, FeedsTo, StopsAtSink as RefusesRest, StopsForMemory, all_of, calls_of, bytes_of}}
@@ -95,7 +95,7 @@ gets_both a b c xs ys t g =
 gets_all : (a b : Lent) (calls : List (List Item)) → TakesEach TakesItems a calls b → GetsBy a (all_of calls) b
 gets_all a b calls t = taken_all TakesItems RefusesItems GetsBy gets_none (λ x y z xs ys u g. gets_both x y z xs ys u g) a b calls t
 
--- whatever the decoder answered
+-- the loan stays the same loan, whatever the decoder answered
 pub same_loan : (r : Result (Unit {0}) NvtFault) (old new : DecoderState) (piece : List ℕ) (a b : Lent) → OnOk r (FeedsTo TakesItems old piece a b new)
     → (IsErrOf r nvt.Refused → RefusesRest TakesItems RefusesItems old piece a b) → (IsErrOf r nvt.Memory → StopsForMemory TakesItems old piece a b)
     → (IsErrOf r nvt.Failed → b ≡ a) → IsSameLoan a b
@@ -130,7 +130,7 @@ feeds_of old new held d piece after a b began hands is outs =
       said = outs ∙ g.said ∙ ap (λ (xs : List Item). a.out.now.items ++ spells xs) (says_lent old held a items began);
     }
 
--- what was taken, what was done of the refused call, and what was left of it and after it
+-- the items that were taken, those that the refused call did, and the rest of it and after it
 four_parts : (taken done left unseen : List Item) (item : Item) (call : List Item) → call ≡ done ++ item ∷ left
     → taken ++ (call ++ unseen) ≡ (taken ++ done) ++ (item ∷ left ++ unseen)
 four_parts taken done left unseen item call is =
@@ -149,7 +149,7 @@ halted end there new held d (inr shut) is =
     is ∙ ap (λ (e : End). record e { decoder = d; failed = true }) shut in
     rw back refl
 
--- what the next item says, and why it is refused, has no part in the decoder
+-- the reply to the next item, and why it is refused, do not depend on the decoder
 first_lent : (end : End) (held : DecoderState) (item : Item) → says_item (record end { decoder = held }) item ≡ says_item end item
 first_lent end held item = item_says held end.failed end.terminal.closed end item
 

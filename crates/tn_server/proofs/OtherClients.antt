@@ -1,4 +1,4 @@
--- What a server makes of clients of other makers.
+-- How a server takes clients of other makers.
 use Rattle.std.proofs.Common.{◌≡◌, ℕ, ◌+◌, ◌≤◌, ◌<◌, ◌==◌, Bool, true, false, not, nat_le, Option, Some, None, List, [], ◌∷◌, ◌++◌, map, length, refl, sym, ap}
 use Rattle.std.proofs.{Common.{◌∙◌, if◌then◌else◌, append-nil, append_assoc, arith, ◌&&◌}, lemmas.{Bool.Decides.nat_tests, List.length-append, Nat.and_assoc}}
 use Rattle.std.proofs.lemmas.List.Elements.{All-head, All-tail}
@@ -105,7 +105,7 @@ remote_roles (next h (got item)) s =
 remote_roles (next h (char_set f v)) s = absurd s.1
 remote_roles (next h _) s = remote_roles h s.0
 
--- and of keys alone
+-- the roles are those of one key and of the keys after it
 one_more_key : (s : Settings) (key : ℕ) (keys : List ℕ) (rs : List Role) → rs ≡ roles_of s keys → roles_from (role_of_key s key) ++ rs ≡ roles_of s (key ∷ keys)
 one_more_key s key keys rs is =
     ap (λ xs. xs ++ rs) (roles_of-one s key) ∙ ap (λ xs. roles_of s (key ∷ []) ++ xs) is ∙ sym (roles_of-append s (key ∷ []) keys)

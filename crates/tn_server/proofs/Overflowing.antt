@@ -1,4 +1,4 @@
--- What waits at a server end is bounded.
+-- The entries and symbols that wait at a server end are bounded.
 use Rattle.std.proofs.Common.{◌≡◌, ℕ, ◌≤◌, ◌+◌, nat_le, ◌&&◌, Bool, true, false, List, ◌++◌, length, map, take, refl, ap, arith, length-append, length-drop}
 use Rattle.std.proofs.{Common.if◌then◌else◌, lemmas.{Bool.leb-true, List.{length-take, length-map, Elements.All-drop}}}
 use Rattle.std.specs.Prelude.{All}

@@ -59,7 +59,7 @@ refused_cause t new r pty.Closed x = x.0
 refused_cause t new r pty.TooFarAhead x = (x.1, x.2)
 refused_cause t new r pty.Memory x = (x.1, x.0.room (text_is_entry t.line r (gives_entry r) refl x.1))
 
--- and so of a key that is typed while the client does not edit
+-- a key that is typed while the client does not edit is refused for the cause of its role
 pub refused_key : (old : End) (new : Terminal) (byte : ℕ) {T : Type 0} (r : Result T PtyFault) → edits old.modes.current ≡ false
     → IfErr r (λ f. Refuses old.terminal (role_of_key old.terminal.settings byte) f new) → IfErr r (λ f. IsKeyCause old.terminal (role_of_typed old byte) f)
 refused_key old new byte r edit refused =

@@ -1,4 +1,4 @@
--- What the code settles is what the terms of a history settle.
+-- The code settles the terms as a history does.
 use Rattle.std.proofs.Common.{◌≡◌, ℕ, ◌==◌, Bool, true, false, Option, Some, None, ◌++◌, refl, ap, ◌∙◌, if◌then◌else◌}
 use Rattle.tn_discipline.specs.{Characters.Characters, declared.termios.Flags.Flags}
 use Rattle.tn_linemode.specs.{Modes.{Modes, mode_of, mask_sent}, Words.{differ, mode_items}}

@@ -40,7 +40,7 @@ spelled_run (suc n) (Byte x ∷ rest) within =
           rw (t, cr, iac) (ap (λ ys. x ∷ ys) (spelled_run n rest (omega (arith, more))))
     ]
 
--- symbols, and those behind them
+-- symbols, and those after them
 pub spelled_both : (before : List ℕ) (queue : List Symbol) (i n : ℕ)
     → (before ++ spells (map data_of (take i queue))) ++ spells (map data_of (take n (drop i queue))) ≡ before ++ spells (map data_of (take (i + n) queue))
 spelled_both before queue i n =

@@ -1,4 +1,4 @@
--- Where an item leads, from a history to the end, by the terms that the end has agreed on.
+-- The end to which an item leads from a history, by the terms that the end has agreed on.
 use Rattle.std.proofs.Common.{◌≡◌, ℕ, Option, List, ◌++◌, refl, sym, ap, ◌∙◌, append_assoc, arith, subst}
 use Rattle.tn_codes.specs.declared.payloads.Payload.{Payload}
 use Rattle.tn_discipline.specs.{Characters.Characters, Keys.roles_from, Entries.entries_of, HalfLine.{HalfLine, line_after}, declared.keys.Role.Role}
@@ -13,7 +13,7 @@ use Rattle.tn_server.specs.{Events.{Event, History, next, got}, Terms.{Terms, te
 use Rattle.tn_server.specs.{Lines.{roles, role_at, role_of_item}, Screen.{shows, size_after}, Replies.{replies, items_at, list_replies}, Calls.{End, LeadsTo}}
 use Rattle.tn_server.proofs.lemmas.Ends.{line_is}
 
--- what an item does to the terminal
+-- the effect of an item on the terminal
 abbrev pub terminal_by_terms : End → Item → Option Payload → Terminal
 terminal_by_terms old item payload =
     let t = old.terminal in
@@ -29,7 +29,7 @@ terminal_by_terms old item payload =
 abbrev pub terms_of_event : End → Event → Terms
 terms_of_event old e = terms_after old.terminal.settings.flags old.terms e
 
--- the end after an item, and what it says to it
+-- the end after an item, and its reply
 abbrev pub end_by_terms : End → Item → End
 end_by_terms old item =
     let t = terms_of_event old (got item) in

@@ -1,4 +1,4 @@
--- The step of an end at an item is the one by its terms, if the parts that say the same agree.
+-- The step of an end at an item is the one by its terms, if the parts that hold the same fact agree.
 use Rattle.std.proofs.Common.{◌≡◌, ℕ, Bool, true, false, Option, Some, None, List, [], ◌++◌, refl, sym, ap, ◌∙◌, if◌then◌else◌, append-nil}
 use Rattle.tn_codes.specs.declared.{codes.Verb.Verb, payloads.Payload.{Payload, TheVariants.Mode}}
 use Rattle.tn_discipline.specs.{Characters.Characters, declared.{reads.Entry.Entry, echo.Symbol.Symbol, termios.Settings.Settings}}
@@ -15,7 +15,7 @@ use Rattle.tn_server.specs.declared.terms.Negotiation.{Negotiation}
 use Rattle.tn_server.proofs.{lemmas.Terms.{terms_stay, says_nothing, differ_self, echo_keeps_linemode}, Settling.{Agree, terms_settle, masks_settle}}
 use Rattle.tn_server.proofs.{Settling.says_settle, Standings.{terms_of_event, terminal_by_terms, end_by_terms, says_by_terms}}
 
--- the parts of an end that say the same agree
+-- the parts of an end that hold the same fact agree
 pub record IsSound (old : End) : Type 0 where
   pub masks : Agree old.modes old.terms
   pub chars : old.table ≡ old.terminal.settings.chars
@@ -81,7 +81,7 @@ set_by old t payload =
       height = (size_after (old.terminal.width, old.terminal.height) payload).1;
     }
 
--- an item that changes no option and brings this payload, whose wish is none or is not allowed
+-- an item that changes no option and brings this payload, whose request is none or is not allowed
 quiet_terms : (old : End) (item : Item) (payload : Option Payload) → options_after old.terms.options (got item) ≡ old.terms.options
     → payload_at old.terms.options item ≡ payload → wish_after old.terminal.settings.flags old.terms.wish (wish_in payload) ≡ old.terms.wish
     → terms_of_event old (got item) ≡ old.terms
@@ -184,7 +184,7 @@ mode_acked old mask is =
 abbrev pub masks_at : Options → Bool → ℕ → ℕ → Option Payload → Modes
 masks_at before on wish current payload = record { asked = asked_mask_while on wish; current = mask_after (differ (linemode before) on) current payload }
 
--- what is settled is what the terms say
+-- the code settles what the terms settle
 pub settled_all : (old : End) (o : Options) (ed : Option Editing) (set : Bool) (payload : Option Payload) (terminal : Terminal)
     → chars_after old.table payload ≡ old.table → terminal ≡ old.terminal
     → mask_after (changes old.terms.options o) old.modes.current payload ≡ mask_after (changes old.terms.options o) old.modes.current None → IsSound old
@@ -229,7 +229,7 @@ settled_all old o ed set payload terminal c is m s =
       terminal = x;
     }) is
 
--- an option word
+-- an option message
 pub words_got : (old : End) (verb : Verb) (option : ℕ) → IsSound old → end_by_terms old (Neg verb option) ≡ end_after_word old verb option
 words_got old verb option s =
     let kept = ap (λ (t : Terminal). set_by old t None) (neg_types_nothing old verb option) ∙ unset old old.terminal refl refl refl s in

@@ -1,4 +1,4 @@
--- A wish, as a call or in a MODE, and the other payloads.
+-- A request, as a call or in a MODE, and the other payloads.
 use Rattle.std.proofs.Common.{◌≡◌, ℕ, Bool, true, false, Option, Some, None, is_some, List, ◌++◌, refl, sym, ap, ◌∙◌, if◌then◌else◌, append-nil}
 use Rattle.tn_codes.specs.declared.payloads.Payload.{Payload, TheVariants.{Naws, Mode, ForwardOn, ForwardOff, ForwardYes, ForwardNo, Slc}}
 use Rattle.tn_discipline.specs.Characters.{Characters}
@@ -13,7 +13,7 @@ use Rattle.tn_server.proofs.{lemmas.Terms.{terms_stay, says_nothing, differ_self
 use Rattle.tn_server.proofs.Standings.{end_by_terms, says_by_terms}
 use Rattle.tn_server.proofs.Turning.{IsSound, with_all, still, settled_all, set_by, typed_by, unset, own_chars, unwished, mode_acked, quiet_says}
 
--- a wish by the mask that it asks for, where the item brings this payload
+-- a request by the mask that it asks for, if the item brings this payload
 pub wish_done : (old : End) (ed : Editing) (mask : Option ℕ) (payload : Option Payload) (terminal : Terminal) → mask_for old.terminal.settings.flags ed ≡ mask
     → chars_after old.table payload ≡ old.table → terminal ≡ old.terminal → mask_after false old.modes.current payload ≡ old.modes.current → IsSound old
     → with_all old (terms_by old.terminal.settings.flags old.terms old.terms.options (Some ed) false) payload terminal ≡ end_after_wish old mask

@@ -1,4 +1,4 @@
--- What a piece of the stream does to a server end: all of it, or what came before a refusal.
+-- The effect of a piece of the stream on a server end: of all of it, or of the part before a refusal.
 use Rattle.std.specs.Prelude.{◌≡◌, ◌≢◌, ℕ, true, List, [], ◌∷◌, ◌++◌}
 use Rattle.tn_linemode.specs.Prefixes.{WantsMemory}
 use Rattle.tn_nvt.specs.{Feeding.{DecoderState, failed}, Spelling.spells, declared.items.Item.Item}
@@ -14,7 +14,7 @@ pub record Feeds (old : End) (piece before after : List ℕ) (new : End) : Type 
   pub step : new ≡ record (end_after_items old items) { decoder = new.decoder }
   pub said : after ≡ before ++ spells (says_items old items)
 
--- what the first of these items makes the end say, if there is one
+-- the reply of the end to the first of these items, if there is one
 abbrev pub first_said : End → List Item → List Item
 first_said end [] = []
 first_said end (item ∷ left) = says_item end item
@@ -24,7 +24,7 @@ abbrev pub IsStopCause : End → List Item → DecoderState → List ℕ → Ser
 IsStopCause end [] here back f = (f ≡ fault.Memory) × WantsMemory here back
 IsStopCause end (item ∷ left) here back f = IsRefusedFor end item f
 
--- it has failed, and its terminal may be shut; all else is as it was
+-- the end has failed, and its terminal may be closed; all else is as it was
 abbrev pub IsHalted : End → End → Type 0
 IsHalted old new =
     new
@@ -34,8 +34,8 @@ IsHalted old new =
       failed = true;
     }
 
--- A piece was refused: of the items of a prefix of it some were done, and what was appended spells what they
--- make the end say, and a prefix of what the next does.
+-- A piece was refused: of the items of a prefix of it some were done, and the appended bytes spell the
+-- replies to them, and a prefix of the reply to the next.
 pub record StopsWithin (old : End) (piece : List ℕ) (fault : ServerFault) (before after : List ℕ)
     (new : End) : Type 0 where
   pub front : List ℕ

@@ -1,4 +1,4 @@
--- How much a server end sends at most, in bytes.
+-- The most bytes that a server end sends.
 use Rattle.std.specs.Prelude.{◌≡◌, ℕ, ◌+◌, ◌*◌, None, length, map}
 use Rattle.tn_discipline.specs.Characters.{AreAllowed, char_fault}
 use Rattle.tn_nvt.specs.{Spelling.{spelling, spells}, declared.items.Item.{Item, TheVariants.{Neg, Sub}}}
@@ -6,9 +6,9 @@ use Rattle.tn_server.specs.Events.{Event, got, took, wrote, pulled, wished, char
 use Rattle.tn_server.specs.{Events.{History, begun, next}, Replies.{data_of, items_said}, Screen.queue}
 use Rattle.tn_server.specs.Terms.{chars}
 
--- What an item is answered by at most. An option word: by a word (3 bytes), the whole table (30), a MODE (7)
--- and a word for ECHO (3). A subnegotiation: by answers that are no longer than it is,
--- and by the whole table.
+-- The most bytes of the reply to an item. To an option message: a message (3 bytes), the whole table (30), a
+-- MODE (7) and a message for ECHO (3). To a subnegotiation: answers that are no longer than it is, and the
+-- whole table.
 abbrev pub max_said : Item → ℕ
 max_said (Neg verb option) = 43
 max_said (Sub option params) = length (spelling (Sub option params)) + 30
@@ -21,8 +21,9 @@ HasAllowedCharacters (next h (char_set func value)) =
     HasAllowedCharacters h × (char_fault (chars h) func value ≡ None)
 HasAllowedCharacters (next h _) = HasAllowedCharacters h
 
--- What a call of the owner adds at most to what is sent, or waits to be: GA; two bytes for each byte of
--- output; a MODE and a word for ECHO; a triple; a word for ECHO; a forward mask. To pull sends what waited.
+-- The most bytes that a call of the owner adds to those that are sent, or wait to be: GA; two bytes for each
+-- byte of output; a MODE and a message for ECHO; a triple; a message for ECHO; a forward mask. A pull sends
+-- bytes that waited.
 abbrev pub max_of_call : Event → ℕ
 max_of_call (got item) = 0
 max_of_call took = 2
@@ -33,6 +34,7 @@ max_of_call (char_set func value) = 9
 max_of_call (echo_set on) = 3
 max_of_call (mask_set mask) = 71
 
+-- the most bytes that all calls of a history add
 abbrev pub max_of_calls : History → ℕ
 max_of_calls (begun canon) = 0
 max_of_calls (next h e) = max_of_calls h + max_of_call e

@@ -21,7 +21,7 @@ pub record End : Type 0 where
   pub pulled : Bool
   pub failed : Bool
 
--- this is where the history leads
+-- the history leads to this end
 pub record LeadsTo (h : History) (end : End) : Type 0 where
   pub settings : end.terminal.settings ≡ settings h
   pub table : end.table ≡ chars h
@@ -41,12 +41,12 @@ pub record LeadsTo (h : History) (end : End) : Type 0 where
 abbrev pub call_fault : End → Option ServerFault
 call_fault end = if end.failed then Some fault.Failed else None
 
--- or the terminal can't have the character
+-- why a special character is refused: the end has failed, or the terminal cannot have the character
 abbrev pub char_fault_at : End → Func → Option ℕ → Option ServerFault
 char_fault_at end func value =
     if end.failed then Some fault.Failed else option_map fault.Char (char_fault end.table func value)
 
--- or LINEMODE is not on, and nobody takes a forward mask
+-- why a forward mask is refused: the end has failed, or LINEMODE is not on, and the client takes no mask
 abbrev pub mask_fault : End → Option ServerFault
 mask_fault end =
     if end.failed then Some fault.Failed else (if linemode end.terms.options then None else Some fault.NotOn)

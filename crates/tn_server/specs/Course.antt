@@ -1,4 +1,5 @@
--- What was done to a server end from outside: pieces of the stream, cut anywhere, and the calls of its owner.
+-- The course of a server end, as seen from outside: pieces of the stream, cut anywhere, and the calls of its
+-- owner.
 use Rattle.std.specs.Prelude.{◌≡◌, List, ℕ, [], ◌∷◌, ◌++◌, length}
 use Rattle.tn_discipline.specs.Canon.{Canon}
 use Rattle.tn_nvt.specs.Feeding as nvt
@@ -7,6 +8,7 @@ use Rattle.tn_linemode.specs.Prefixes.{IsRead}
 use Rattle.tn_server.specs.Events.{Event, got, wrote, pulled, History, begun, next, items, gets}
 use Rattle.tn_server.specs.{Screen.queue, Calls.{End, LeadsTo}}
 
+-- a course: a start, pieces of the stream, and calls
 pub data Course : Type 0 where
   started : Canon → Course
   fed : Course → List ℕ → Course
@@ -32,7 +34,7 @@ ReadsAs (fed course piece) h =
     × ReadsAs course old × IsRead (stream course ++ piece) (items old ++ more) × (h ≡ gets old more)
 ReadsAs (called course call) h = (old : History) × ReadsAs course old × IsCall call × (h ≡ next old call)
 
--- The end is where the course leads.
+-- The course leads to the end.
 pub record CourseLeadsTo (course : Course) (end : End) : Type 0 where
   pub history : History
   pub reads_as : ReadsAs course history

@@ -1,4 +1,4 @@
--- What happens at a server end: items come and calls are made.
+-- The events at a server end: items come and calls are made.
 use Rattle.std.specs.Prelude.{ℕ, Bool, Option, List, [], ◌∷◌, ◌++◌}
 use Rattle.tn_codes.specs.declared.{codes.Func.Func, masks.Mask.Mask}
 use Rattle.tn_discipline.specs.{Canon.Canon, declared.termios.Settings.Settings}
@@ -17,7 +17,7 @@ pub data Event : Type 0 where
   echo_set : Bool → Event
   mask_set : Option Mask → Event
 
--- what has happened since the end was started over a terminal, the latest at the right
+-- the events since the end was started over a terminal, the latest at the right
 pub data History : Type 0 where
   begun : Canon → History
   next : History → Event → History
@@ -27,12 +27,12 @@ abbrev pub opening_settings : History → Settings
 opening_settings (begun canon) = canon.settings
 opening_settings (next h e) = opening_settings h
 
--- how many bytes a line has at most, with its closing byte
+-- the most bytes of a line, with its closing byte
 abbrev pub limit : History → ℕ
 limit (begun canon) = canon.limit
 limit (next h e) = limit h
 
--- the items alone
+-- the items of a history
 abbrev pub items : History → List Item
 items (begun canon) = []
 items (next h (got item)) = items h ++ item ∷ []

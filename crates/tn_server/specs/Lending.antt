@@ -1,4 +1,4 @@
--- What a server end takes while it is lent to its decoder.
+-- The items that a server end takes while it is lent to its decoder.
 use Rattle.std.specs.Prelude.{◌≡◌, ℕ, List, ◌∷◌, ◌++◌, map}
 use Rattle.tn_linemode.specs.Prefixes.{AppendsPrefix}
 use Rattle.tn_nvt.specs.{Spelling.spells, declared.items.Item.{Item, TheVariants.Byte}}
@@ -14,7 +14,7 @@ pub record RefusesByte (old : End) (bytes : List ℕ) (fault : ServerFault) (new
   pub cause : IsRefusedFor (end_after_items old (map Byte done)) (Byte byte) fault
   pub step : IsShut (end_after_items old (map Byte done)) new
 
--- the same end is lent, and what it appends to
+-- one end is lent before and after, with one vector to which it appends
 pub record IsSameLoan (old new : Lent) : Type 0 where
   pub end : new.end.ghost_name ≡ old.end.ghost_name
   pub out : new.out.ghost_name ≡ old.out.ghost_name
@@ -26,8 +26,7 @@ pub record TakesItems (old : Lent) (items : List Item) (new : Lent) : Type 0 whe
   pub said : new.out.now.items ≡ old.out.now.items ++ spells (says_items old.end.now items)
   pub cause : new.cause ≡ old.cause
 
--- One of these items was refused, after those before it were done, when a prefix of what it makes the end say
--- was said.
+-- One of these items was refused, after those before it were done, when a prefix of its reply was appended.
 pub record RefusesItems (old : Lent) (items : List Item) (new : Lent) : Type 0 where
   pub same : IsSameLoan old new
   pub done : List Item

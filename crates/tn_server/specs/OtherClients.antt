@@ -1,5 +1,5 @@
--- What a server makes of clients of other makers: of one that edits nothing, as PuTTY, busybox and libtelnet,
--- and of a line that was edited before and is sent whole.
+-- How a server takes clients of other makers: one that edits nothing, as PuTTY, busybox and libtelnet, and a
+-- line that was edited before and is sent whole.
 use Rattle.std.specs.Prelude.{◌≡◌, ℕ, IsTrue, false, IsFalse, Option, Some, List, [], ◌∷◌, ◌++◌, map}
 use Rattle.std.specs.List.{flat_map}
 use Rattle.tn_codes.specs.{PayloadOf.payload_of, declared.payloads.Payload.{Payload, TheVariants.{Mode, Slc}}}
@@ -22,13 +22,14 @@ abbrev pub KeepsCharacters : Characters → Option Payload → Type 0
 KeepsCharacters chars (Some (Slc triples)) = server_after chars triples ≡ chars
 KeepsCharacters chars _ = Unit {0}
 
+-- the event acknowledges no EDIT, and changes no special character
 abbrev pub IsRemoteEvent : Characters → Event → Type 0
 IsRemoteEvent chars (got (Sub option params)) =
     AcknowledgesNoEdit (payload_of option params) × KeepsCharacters chars (payload_of option params)
 IsRemoteEvent chars (char_set func value) = ⊥
 IsRemoteEvent chars _ = Unit {0}
 
--- No item acknowledges EDIT, and nobody changes a special character.
+-- No item acknowledges EDIT, and neither side changes a special character.
 abbrev pub StaysRemote : History → Type 0
 StaysRemote (begun canon) = Unit {0}
 StaysRemote (next h e) = StaysRemote h × IsRemoteEvent (opening_settings h).chars e
@@ -41,13 +42,14 @@ opening_canon h = record { settings = opening_settings h; limit = limit h }
 abbrev pub roles_of_items : Settings → List Item → List Role
 roles_of_items s items = flat_map (λ item. roles_from (role_at s false item)) items
 
--- the data bytes alone, as keys
+-- the data bytes, as keys
 abbrev pub keys_of : List Item → List ℕ
 keys_of [] = []
 keys_of (Byte byte ∷ items) = byte ∷ keys_of items
 keys_of (Newline ∷ items) = 10 ∷ keys_of items
 keys_of (_ ∷ items) = keys_of items
 
+-- the item is no command
 abbrev pub IsNoCommand : Item → Type 0
 IsNoCommand (Cmd command) = ⊥
 IsNoCommand _ = Unit {0}

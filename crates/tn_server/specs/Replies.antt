@@ -1,4 +1,4 @@
--- What a server end sends, as items; its bytes are their spellings, one after another.
+-- The replies of a server end, as items; its bytes are their spellings, one after another.
 use Rattle.std.specs.Prelude.{ℕ, Bool, true, false, not, ◌&&◌, Option, Some, None, Result, Ok, Err, List, []}
 use Rattle.std.specs.Prelude.{◌∷◌, ◌++◌, map, take, if◌then◌else◌}
 use Rattle.tn_codes.specs.OptionCodes as option_code
@@ -19,31 +19,32 @@ use Rattle.tn_server.specs.Terms.{Terms, terms, options, flags, chars, linemode,
 use Rattle.tn_server.specs.Terms.{asked_mask_of, wish_after, wish_at, wants_echo, mask_told, asks_echo}
 use Rattle.tn_server.specs.{declared.wishes.Editing.Editing, Screen.{sends_ga, none_waits, due, queue}}
 
--- a wish that is refused says nothing
+-- a request that is refused sends nothing
 abbrev pub asked_word_items : Result (Option (Verb × ℕ)) AskFault → List Item
 asked_word_items (Ok said) = word_items said
 asked_word_items (Err fault) = []
 
--- the word that answers an option word
+-- the message that answers an option message
 abbrev pub reply_items : Options → Event → List Item
 reply_items o (got (Neg verb option)) = word_items (reply_to o verb option)
 reply_items o _ = []
 
--- the whole table, where it is to be told
+-- the whole table, if it is to be sent
 abbrev pub table_items : Bool → Characters → List Item
 table_items true c = list_items (announcement c)
 table_items false c = []
 
--- the whole table, where LINEMODE comes on
+-- the whole table, if LINEMODE comes on
 abbrev pub new_table_items : Bool → Bool → Characters → List Item
 new_table_items was on c = table_items (on && not was) c
 
+-- the message for the server's ECHO, if it is due
 abbrev pub echo_items : Bool → Bool → Options → List Item
 echo_items true wanted o = asked_word_items (answer_to o Us option_code.echo wanted)
 echo_items false wanted o = []
 
--- what the server says once the options and perhaps a wish are new, or the flag ECHO was set: the whole
--- table, the mode, its ECHO
+-- the items that the server sends once the options and perhaps a request are new, or the flag ECHO was set:
+-- the whole table, the mode, its ECHO
 abbrev pub items_by : Flags → Characters → Terms → Options → Option Editing → Bool → List Item
 items_by f c t o editing set =
     let wish = wish_after f t.wish editing in
@@ -51,7 +52,7 @@ items_by f c t o editing set =
     ++ (mode_items (mask_told t o wish)
     ++ echo_items (asks_echo t.options o (mask_told t o wish) set) (wants_echo (asked_mask_of o wish) f) o)
 
--- what an event makes it say: the word that answers first
+-- the items that the end sends at an event, the message that answers first
 abbrev pub items_at : Flags → Characters → Terms → Event → List Item
 items_at f c t e =
     reply_items t.options e
@@ -64,12 +65,12 @@ list_replies c (Some (Slc triples)) =
     ++ table_items (server_is_asked triples) (chars_after c (Some (Slc triples)))
 list_replies c _ = []
 
--- the triple of a character, where it is to be told
+-- the triple of a character, if it is to be sent
 abbrev pub triple_items : Bool → Func → Option ℕ → List Item
 triple_items true func value = list_items (triple_of func value ∷ [])
 triple_items false func value = []
 
--- a character that is changed, as its triple, where LINEMODE is on
+-- a character that is changed, as its triple, if LINEMODE is on
 abbrev pub character_items : Bool → Option ℕ → Func → Option ℕ → List Item
 character_items on old func new = triple_items (on && not (is_same_value old new)) func new
 
@@ -93,7 +94,7 @@ abbrev pub data_of : Symbol → Item
 data_of (symbol.Byte byte) = Byte byte
 data_of symbol.Newline = Newline
 
--- what an event makes the server send
+-- the items that an event makes the server send
 abbrev pub replies : History → Event → List Item
 replies h (got item) =
     items_at (flags h) (chars h) (terms h) (got item) ++ list_replies (chars h) (payload_at (options h) item)
@@ -105,7 +106,7 @@ replies h (char_set func value) = character_items (linemode (options h)) (slot (
 replies h (echo_set on) = items_at (flags (next h (echo_set on))) (chars h) (terms h) (echo_set on)
 replies h (mask_set mask) = payload_items (forward_payload mask)
 
--- what was sent
+-- all items that were sent
 abbrev pub items_said : History → List Item
 items_said (begun canon) = opening
 items_said (next h e) = items_said h ++ replies h e

@@ -16,7 +16,7 @@ use Rattle.tn_codes.specs.declared.payloads.Payload.{Payload, TheVariants.Naws}
 abbrev pub byte_shows : Settings → Bool → Bool → HalfLine → ℕ → List Symbol
 byte_shows s edit on half byte = echo_symbols (not edit && on) s byte half
 
--- what an item puts on the screen, where it fits
+-- the symbols that an item puts on the screen, if they fit
 abbrev pub shows : Settings → Bool → Bool → HalfLine → Item → List Symbol
 shows s edit on half (Byte byte) = byte_shows s edit on half byte
 shows s edit on half Newline = byte_shows s edit on half 10
@@ -33,7 +33,7 @@ queue (next h (wrote bytes)) =
 queue (next h (pulled n)) = drop n (queue h)
 queue (next h _) = queue h
 
--- RFC 858: GA is due where nobody waits to be read, unless it is suppressed
+-- RFC 858: GA is due if no entry waits to be read, unless GA is suppressed
 abbrev pub sends_ga : Bool → Options → Bool → Bool
 sends_ga none o due = none && (not (is_yes (state_of o Us option_code.suppress_go_ahead)) && due)
 
@@ -48,11 +48,12 @@ due (next h took) = if sends_ga (none_waits h) (options h) (due h) then false el
 due (next h (pulled n)) = due h || nat_lt 0 (length (take n (queue h)))
 due (next h _) = due h
 
--- RFC 1073: the window's size, as it was told last while NAWS was on; nothing is told at first
+-- RFC 1073: the window's size, as the client sent it last while NAWS was on; none was sent at first
 abbrev pub size_after : ℕ × ℕ → Option Payload → ℕ × ℕ
 size_after size (Some (Naws width height)) = (width, height)
 size_after size _ = size
 
+-- the window's width and height after a history
 abbrev pub size : History → ℕ × ℕ
 size (begun canon) = (0, 0)
 size (next h (got item)) = size_after (size h) (payload_at (options h) item)

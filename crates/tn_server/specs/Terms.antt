@@ -1,4 +1,5 @@
--- What a server end has agreed on with its client: options, special characters and the mode of editing.
+-- The terms on which a server end has agreed with its client: options, special characters and the mode of
+-- editing.
 use Rattle.std.specs.Prelude.{ℕ, Bool, true, false, not, ◌&&◌, ◌||◌, Option, Some, None, is_some, [], ◌∷◌}
 use Rattle.std.specs.Prelude.{if◌then◌else◌}
 use Rattle.tn_codes.specs.OptionCodes as option_code
@@ -20,7 +21,7 @@ abbrev pub agreement : Agree
 agreement =
     record { us = true ∷ true ∷ false ∷ false ∷ []; them = false ∷ true ∷ true ∷ true ∷ [] }
 
--- the options after the opening wishes, in their order
+-- the options after the opening requests, in their order
 abbrev pub opening_options : Options
 opening_options =
     options_after_wish
@@ -33,6 +34,7 @@ opening_options =
     Them option_code.suppress_go_ahead true)
     Us option_code.echo true
 
+-- LINEMODE is on at the client's side
 abbrev pub linemode : Options → Bool
 linemode o = is_yes (state_of o Them option_code.linemode)
 
@@ -40,42 +42,46 @@ linemode o = is_yes (state_of o Them option_code.linemode)
 abbrev pub echoes : Options → Bool
 echoes o = is_yes (state_of o Us option_code.echo)
 
--- the payload that an item brings, where its option is on at the client's side
+-- the payload of an item, if its option is on at the client's side
 abbrev pub payload_at : Options → Item → Option Payload
 payload_at o (Sub option params) = payload_under (is_yes (state_of o Them option)) option params
 payload_at o _ = None
 
--- Local is allowed where a carriage return ends the line as a line feed does
+-- Local is allowed if a carriage return ends the line as a line feed does
 abbrev pub allows_local : Flags → Bool
 allows_local flags = flags.icrnl && (not flags.inlcr && not flags.igncr)
 
--- RFC 1184, section 2.2: Remote is no mode bit; Local is EDIT, with TRAPSIG where ISIG is set
+-- RFC 1184, section 2.2: Remote is no mode bit; Local is EDIT, with TRAPSIG if ISIG is set
 abbrev pub mask_for : Flags → Editing → Option ℕ
 mask_for flags Remote = Some 0
 mask_for flags Local = if allows_local flags then Some (if flags.isig then 3 else 1) else None
 
+-- this mask, or the one before if there is none
 abbrev pub mask_or : ℕ → Option ℕ → ℕ
 mask_or before None = before
 mask_or before (Some mask) = mask
 
--- a wish that is not allowed changes nothing
+-- a request that is not allowed changes nothing
 abbrev pub wish_after : Flags → ℕ → Option Editing → ℕ
 wish_after flags before None = before
 wish_after flags before (Some editing) = mask_or before (mask_for flags editing)
 
+-- the side that a client requests by EDIT
 abbrev pub editing : Bool → Editing
 editing true = Local
 editing false = Remote
 
+-- the side that a client requests, if it requests one
 abbrev pub editing_of : Option Bool → Option Editing
 editing_of None = None
 editing_of (Some edit) = Some (editing edit)
 
--- a MODE without acknowledgement is the client's wish
+-- a MODE without acknowledgement is the client's request
 abbrev pub wish_in : Option Payload → Option Editing
 wish_in (Some (Mode mask)) = editing_of (wish_of_mask mask)
 wish_in _ = None
 
+-- the request of an event, if it is one
 abbrev pub wish_at : Options → Event → Option Editing
 wish_at o (got item) = wish_in (payload_at o item)
 wish_at o (wished editing) = Some editing
@@ -87,33 +93,35 @@ flags (begun canon) = canon.settings.flags
 flags (next h (echo_set on)) = record (flags h) { echo = on }
 flags (next h _) = flags h
 
--- the options, and the mask of the last wish that was allowed
+-- the options, and the mask of the last request that was allowed
 pub record Terms : Type 0 where
   pub options : Options
   pub wish : ℕ
 
--- the mask that the client was asked for: that of the last wish, while LINEMODE is on
+-- the mask that the client was asked for: that of the last request, while LINEMODE is on
 abbrev pub asked_mask_while : Bool → ℕ → ℕ
 asked_mask_while true wish = mode_of wish
 asked_mask_while false wish = 0
 
+-- the mask that the client was asked for, by the options and the request
 abbrev pub asked_mask_of : Options → ℕ → ℕ
 asked_mask_of o wish = asked_mask_while (linemode o) wish
 
--- the MODE that is sent where LINEMODE is on: the wish, unless it was asked already
+-- the MODE that is sent if LINEMODE is on: the requested one, unless it was asked already
 abbrev pub mode_sent : Bool → ℕ → ℕ → Option ℕ
 mode_sent true before wish = mask_sent (record { asked = before; current = 0 }) wish
 mode_sent false before wish = None
 
--- the options after an option word
+-- the options after an option message
 abbrev pub options_after : Options → Event → Options
 options_after o (got (Neg verb option)) = options_after_word o verb option
 options_after o _ = o
 
--- ECHO is the server's where the client does not edit, or where the flag ECHO is clear: then nobody echoes
+-- ECHO is the server's if the client does not edit, or if the flag ECHO is clear: then neither end echoes
 abbrev pub wants_echo : ℕ → Flags → Bool
 wants_echo asked_mask flags = not (edits asked_mask) || not flags.echo
 
+-- the event sets or clears the flag ECHO
 abbrev pub is_echo_set : Event → Bool
 is_echo_set (echo_set on) = true
 is_echo_set _ = false
@@ -122,20 +130,21 @@ is_echo_set _ = false
 abbrev pub changes : Options → Options → Bool
 changes old new = differ (linemode old) (linemode new)
 
--- the server asks for its ECHO again after each change of LINEMODE, each wish that sends,
--- and each change of the flag
+-- the server asks for its ECHO again after each change of LINEMODE, each request that sends, and each change
+-- of the flag
 abbrev pub asks_echo : Options → Options → Option ℕ → Bool → Bool
 asks_echo old new told set = changes old new || (is_some told || set)
 
+-- the options after the server's message for ECHO, if it is due
 abbrev pub options_with_echo : Bool → Bool → Options → Options
 options_with_echo true wanted o = options_after_wish o Us option_code.echo wanted
 options_with_echo false wanted o = o
 
--- the MODE that is sent once these are the options and this is the wish
+-- the MODE that is sent once these are the options and this is the request
 abbrev pub mask_told : Terms → Options → ℕ → Option ℕ
 mask_told t o wish = mode_sent (linemode o) (asked_mask_of t.options t.wish) wish
 
--- the terms once the options and perhaps a wish are new, or the flag ECHO was set
+-- the terms once the options and perhaps a request are new, or the flag ECHO was set
 abbrev pub terms_by : Flags → Terms → Options → Option Editing → Bool → Terms
 terms_by f t o editing set =
     let wish = wish_after f t.wish editing in
@@ -149,6 +158,7 @@ terms_by f t o editing set =
 abbrev pub terms_after : Flags → Terms → Event → Terms
 terms_after f t e = terms_by f t (options_after t.options e) (wish_at t.options e) (is_echo_set e)
 
+-- the terms after a history
 abbrev pub terms : History → Terms
 terms (begun canon) = record { options = opening_options; wish = 0 }
 terms (next h (got item)) = terms_after (flags h) (terms h) (got item)
@@ -156,9 +166,11 @@ terms (next h (wished editing)) = terms_after (flags h) (terms h) (wished editin
 terms (next h (echo_set on)) = terms_after (flags (next h (echo_set on))) (terms h) (echo_set on)
 terms (next h _) = terms h
 
+-- the options after a history
 abbrev pub options : History → Options
 options h = (terms h).options
 
+-- the mask that the client was asked for, after a history
 abbrev pub asked_mask : History → ℕ
 asked_mask h = asked_mask_of (options h) (terms h).wish
 
@@ -168,12 +180,14 @@ mask_after true mode payload = 0
 mask_after false mode (Some (Mode mask)) = if is_acknowledged mask then mode_of mask else mode
 mask_after false mode _ = mode
 
+-- the mask in force after a history
 abbrev pub mode : History → ℕ
 mode (begun canon) = 0
 mode (next h (got item)) =
     mask_after (changes (options h) (options (next h (got item)))) (mode h) (payload_at (options h) item)
 mode (next h _) = mode h
 
+-- the special characters after a list of local characters
 abbrev pub chars_after : Characters → Option Payload → Characters
 chars_after c (Some (Slc triples)) = server_after c triples
 chars_after c _ = c
@@ -185,10 +199,11 @@ chars (next h (got item)) = chars_after (chars h) (payload_at (options h) item)
 chars (next h (char_set func value)) = with_slot (chars h) func value
 chars (next h _) = chars h
 
+-- the flags and special characters after a history
 abbrev pub settings : History → Settings
 settings h = record { flags = flags h; chars = chars h }
 
--- a wish for this sends a MODE
+-- a request for this sends a MODE
 abbrev pub sends_mode : History → Editing → Bool
 sends_mode h editing =
     is_some (mask_told (terms h) (options h) (wish_after (flags h) (terms h).wish (Some editing)))

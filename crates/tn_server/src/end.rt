@@ -33,12 +33,12 @@ use tn_nvt::{Decoder, put_cmd};
 use tn_option::{ECHO, LINEMODE, NAWS, QState, SUPPRESS_GO_AHEAD, Side};
 use tn_pty::Pair;
 
-/// Two of the verbs (RFC 854).
+/// Two of the verbs that the opening messages use (RFC 854).
 const WILL: u8 = 251;
 
 const DO: u8 = 253;
 
-/// The opening words.
+/// The opening messages: DO LINEMODE, DO NAWS, WILL and DO SUPPRESS-GO-AHEAD, WILL ECHO.
 const OPENING: [u8; 15] = [
     IAC,
     DO,
@@ -57,8 +57,9 @@ const OPENING: [u8; 15] = [
     ECHO,
 ];
 
-/// The server end of one connection. Its owner feeds it what comes from the network, sends what it
-/// appends, and is the job behind the terminal: it takes entries and writes output.
+/// The server end of one connection. Its owner feeds it the bytes that come from the network and
+/// sends the bytes that it appends. The owner is also the job at the terminal: it takes entries and
+/// writes output.
 #[derive(Drop)]
 pub struct ServerEnd {
     pub(crate) alloc: Global,
@@ -88,8 +89,13 @@ impl Model for ServerEnd {
 }
 
 impl ServerEnd {
-    /// Starts an end over a terminal with these settings, whose lines have at most `limit` bytes, and
-    /// appends the opening words.
+    /// Starts an end over a terminal with these settings, whose lines have at most `limit` bytes,
+    /// and appends the opening messages (RFC 855): DO LINEMODE, DO NAWS, WILL and DO
+    /// SUPPRESS-GO-AHEAD, WILL ECHO.
+    ///
+    /// # Errors
+    ///
+    /// - `Memory`: there is no memory for the terminal or for the messages; nothing was appended.
     pub fn start(
         alloc: Global,
         settings: Settings,
@@ -119,10 +125,17 @@ impl ServerEnd {
         })
     }
 
-    /// Takes a piece of what comes from the client, cut anywhere, and appends the replies. After any
-    /// refusal the end has failed, and `out` may hold replies to what came before the refusal.
-    /// `Pty(TooFarAhead)` where an item makes an entry and 1,024 wait; `Pty(Memory)` for the text of a line;
-    /// `Memory` for what is said, a list of characters or a parameter; `Failed` where it failed before.
+    /// Takes a piece of the client's stream, cut anywhere, and appends the replies.
+    ///
+    /// # Errors
+    ///
+    /// After any error the end has failed, and `out` may hold replies to what came before the
+    /// refused item.
+    ///
+    /// - `Pty(TooFarAhead)`: an item makes an entry, and 1,024 wait.
+    /// - `Pty(Memory)`: there is no memory for the text of a line.
+    /// - `Memory`: there is no memory for a reply, a list of characters or a parameter.
+    /// - `Failed`: the end had failed before; nothing changes.
     pub fn feed(&mut self, piece: &[u8], out: &mut Vec<u8>) -> Result<(), ServerFault>
         ensures ok { OnOk result (Feeds self.old piece.now out.old.items out.new.items self.new) }
         ensures accepted { OnOk result (call_fault self.old ≡ None) }
@@ -156,7 +169,8 @@ impl ServerEnd {
         }
     }
 
-    /// Writes output of a job to the terminal's screen: the first bytes, as many as fit.
+    /// Writes output of a job to the terminal's screen, and returns the number of bytes that were
+    /// taken: the first ones, as many as fit.
     pub fn write(&mut self, bytes: &[u8]) -> usize
         ensures step { self.new ≡ end_after_write self.old bytes.now }
         ensures count { result ≡ fitting_count self.old.terminal.queue bytes.now }
@@ -164,8 +178,11 @@ impl ServerEnd {
         self.pair.write(bytes)
     }
 
-    /// Takes the first entry that waits. Where none waits it may append GA (RFC 858): `Memory` where that
-    /// does not fit.
+    /// Takes the first entry that waits. If none waits, it may append GA (RFC 858).
+    ///
+    /// # Errors
+    ///
+    /// - `Memory`: there is no memory for GA; nothing has changed.
     pub fn take(&mut self, out: &mut Vec<u8>) -> Result<Option<Entry>, ServerFault>
         ensures step { OnOk result (self.new ≡ end_after self.old took) }
         ensures out { OnOk result (out.new.items ≡ out.old.items ++ spells (says self.old took)) }
@@ -188,7 +205,7 @@ impl ServerEnd {
         Ok(None)
     }
 
-    // Symbols were pulled since the last GA, and GA is not suppressed.
+    // Returns whether symbols were pulled since the last GA, and GA is not suppressed.
     fn owes_ga(&self) -> bool
         ensures { let state = state_of self.now.terms.options Us option_code.suppress_go_ahead in
             result ≡ (not (is_yes state) && self.now.pulled) }
@@ -196,8 +213,13 @@ impl ServerEnd {
         !self.terms.options.is_on(Side::Us, SUPPRESS_GO_AHEAD) && self.pulled
     }
 
-    /// Appends the first symbols of the screen in their spelling, at most `max` of them, and returns
-    /// how many symbols.
+    /// Appends the first symbols of the screen in their spelling, at most `max` of them, and
+    /// returns how many symbols they are.
+    ///
+    /// # Errors
+    ///
+    /// - `Memory`: there is no memory for their spelling, at most two bytes a symbol; nothing has
+    ///   changed.
     pub fn pull(&mut self, max: usize, out: &mut Vec<u8>) -> Result<usize, ServerFault>
         ensures step { IfOk result (λ n. self.new ≡ end_after_pull self.old n) }
         ensures out { IfOk result (λ n.
@@ -222,9 +244,16 @@ impl ServerEnd {
         Ok(most)
     }
 
-    /// Wishes for editing at one side, and appends what follows: a MODE where LINEMODE is on and the
-    /// mask is not asked for already. Returns whether one was sent. The client acknowledges it before
-    /// it is in force. `Failed` after a refused piece, `Memory` where what is said does not fit.
+    /// Requests that one side edit lines, and appends a MODE if LINEMODE is on and the mask was not
+    /// asked for already. Returns whether a MODE was sent. The mode is in force once the client
+    /// acknowledges it (RFC 1184, section 2.2).
+    ///
+    /// # Errors
+    ///
+    /// After an error nothing has changed.
+    ///
+    /// - `Failed`: a piece was refused before.
+    /// - `Memory`: there is no memory for the messages.
     pub fn wish(&mut self, editing: Editing, out: &mut Vec<u8>) -> Result<bool, ServerFault>
         ensures step { OnOk result (self.new ≡ end_after self.old (wished editing)) }
         ensures out { OnOk result
@@ -250,9 +279,17 @@ impl ServerEnd {
         }
     }
 
-    /// Changes a special character, or disables it, and tells the client by one triple where LINEMODE
-    /// is on and something changed (RFC 1184, section 2.4). `Char` as `Chars::set` refuses it; else as
-    /// `wish`.
+    /// Changes a special character, or disables it by `None`. If LINEMODE is on and something
+    /// changed, it appends one triple for the client, which the client acknowledges (RFC 1184,
+    /// section 2.4).
+    ///
+    /// # Errors
+    ///
+    /// After an error nothing has changed.
+    ///
+    /// - `Char`: `Chars::set` refuses the character, for the cause that it holds.
+    /// - `Failed`: a piece was refused before.
+    /// - `Memory`: there is no memory for the triple.
     pub fn set_char(
         &mut self,
         func: Func,
@@ -285,8 +322,15 @@ impl ServerEnd {
         Ok(())
     }
 
-    /// Sets or clears the terminal's flag ECHO, and appends the word for the option ECHO, if one is due. It
-    /// is refused as `wish` is.
+    /// Sets or clears the terminal's flag ECHO, and appends the message for the option ECHO, if one
+    /// is due (RFC 857).
+    ///
+    /// # Errors
+    ///
+    /// After an error nothing has changed.
+    ///
+    /// - `Failed`: a piece was refused before.
+    /// - `Memory`: there is no memory for the message.
     pub fn set_echo(&mut self, on: bool, out: &mut Vec<u8>) -> Result<(), ServerFault>
         ensures step { OnOk result (self.new ≡ end_after self.old (echo_set on)) }
         ensures out { OnOk result
@@ -310,8 +354,16 @@ impl ServerEnd {
         Ok(())
     }
 
-    /// Asks the client to send what it holds at each character of this mask, or by `None` at none any more
-    /// (RFC 1184, section 2.3). `NotOn` where LINEMODE is not on; else it is refused as `wish` is.
+    /// Asks the client to send the bytes that it holds at each character of this mask, or by `None`
+    /// at none any more (RFC 1184, section 2.3).
+    ///
+    /// # Errors
+    ///
+    /// After an error nothing has changed.
+    ///
+    /// - `NotOn`: LINEMODE is not on.
+    /// - `Failed`: a piece was refused before.
+    /// - `Memory`: there is no memory for the mask.
     pub fn set_mask(&mut self, mask: Option<Mask>, out: &mut Vec<u8>) -> Result<(), ServerFault>
         ensures step { OnOk result (self.new ≡ end_after self.old (mask_set mask)) }
         ensures out { OnOk result
@@ -333,56 +385,57 @@ impl ServerEnd {
         Ok(())
     }
 
-    /// An entry that waits, by its place from the first on.
+    /// Returns an entry that waits, counted from the first, which is 0; `None` if fewer wait.
     pub fn waiting(&self, index: usize) -> Option<&Entry>
         ensures { (h : History) → LeadsTo h self.now → option_copied result ≡ slice_get (waiting h) index }
     {
         self.pair.waiting(index)
     }
 
-    /// The first signal among the entries that wait.
+    /// Returns the first signal among the entries that wait.
     pub fn signal_waiting(&self) -> Option<Sig>
         ensures { (h : History) → LeadsTo h self.now → result ≡ first_signal (waiting h) }
     {
         self.pair.signal_waiting()
     }
 
-    /// The window's width and height in characters; 0 is unspecified (RFC 1073).
+    /// Returns the window's width and height in characters; 0 is unspecified (RFC 1073).
     pub fn size(&self) -> (u16, u16)
         ensures { (h : History) → LeadsTo h self.now → result ≡ size h }
     {
         self.pair.size()
     }
 
-    /// The mask in force: the bits EDIT and TRAPSIG of the MODE that the client acknowledged last.
+    /// Returns the mask in force: the bits EDIT (1) and TRAPSIG (2) of the MODE that the client
+    /// acknowledged last.
     pub fn mode(&self) -> u8
         ensures { (h : History) → LeadsTo h self.now → result ≡ mode h }
     {
         self.terms.modes.current().mask()
     }
 
-    /// The mask that the client was asked for.
+    /// Returns the mask that the client was asked for last.
     pub fn asked(&self) -> u8
         ensures { (h : History) → LeadsTo h self.now → result ≡ asked_mask h }
     {
         self.terms.modes.asked().mask()
     }
 
-    /// The half line that the terminal holds.
+    /// Returns the half-typed line that the terminal holds.
     pub fn half(&self) -> &[u8]
         ensures { (h : History) → LeadsTo h self.now → result.now ≡ half h }
     {
         self.pair.half()
     }
 
-    /// The special characters in force.
+    /// Returns the special characters in force.
     pub fn chars(&self) -> Chars
         ensures { (h : History) → LeadsTo h self.now → result ≡ chars h }
     {
         self.table.chars()
     }
 
-    /// The terminal's settings: its flags, and the special characters in force.
+    /// Returns the terminal's settings: its flags, and the special characters in force.
     pub fn settings(&self) -> Settings
         ensures value { result ≡ self.now.terminal.settings }
         ensures stands { (h : History) → LeadsTo h self.now → result ≡ settings h }
@@ -390,14 +443,14 @@ impl ServerEnd {
         self.pair.settings()
     }
 
-    /// Where an option stands.
+    /// Returns the state of one side of an option (RFC 1143).
     pub fn option(&self, side: Side, option: u8) -> QState
         ensures { (h : History) → LeadsTo h self.now → result ≡ state_of (options h) side option }
     {
         self.terms.options.q_state(side, option)
     }
 
-    /// Whether a call of `feed` was refused.
+    /// Returns whether a call of `feed` was refused.
     pub fn failed(&self) -> bool
         ensures { result ≡ self.now.failed }
     {

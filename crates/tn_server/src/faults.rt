@@ -1,4 +1,4 @@
-//! Why a call of a server end was refused.
+//! The reasons why a call of a server end is refused.
 
 ghost use Rattle.std.specs.Prelude.{◌≡◌};
 ghost use Rattle.tn_server.specs.declared.faults.ServerFault.TheVariants.{Memory};
@@ -8,13 +8,13 @@ use thiserror::Error;
 use tn_discipline::CharFault;
 use tn_pty::PtyFault;
 
-/// Why a call of a server end was refused.
+/// The reason why a call of a server end was refused.
 #[derive(Clone, Copy, Debug, PartialEq, Eq, Error)]
 pub enum ServerFault {
-    /// The pair behind the end refused a key or a command. The end has failed.
+    /// The terminal of the end refused a key or a command. The end has failed.
     #[error("pseudoterminal: {0}")]
     Pty(PtyFault),
-    /// Out of memory. Where `feed` returns it, the end has failed.
+    /// There was no memory. If `feed` returns this, the end has failed.
     #[error("out of memory")]
     Memory,
     /// A call of `feed` was refused before.

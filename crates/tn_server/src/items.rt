@@ -1,4 +1,4 @@
-//! What a server end does with an item that came.
+//! Takes the items that came at a server end.
 
 ghost use Rattle.std.specs.Prelude.{◌≡◌, ◌≢◌, ◌≤◌, ◌++◌, ℕ, List, true, IsTrue, Some, [], length, map, IfOk};
 ghost use Rattle.std.specs.Prelude.{IfErr, OnOk, OnErr, IsErrOf};
@@ -73,7 +73,7 @@ impl ServerEnd {
         }
     }
 
-    // A byte of data: a key, or a byte of a line that the client edited.
+    // Takes a byte of data: a key, or a byte of a line that the client edited.
     fn byte(&mut self, byte: u8) -> Result<(), PtyFault>
         ensures ok { OnOk result (self.new ≡ end_after_byte self.old byte) }
         ensures err { OnErr result (IsShut self.old self.new) }
@@ -95,7 +95,7 @@ impl ServerEnd {
         self.pair.command(command)
     }
 
-    // An option word: it is answered, and what follows from it is said.
+    // Answers an option message, and appends all that follows from it.
     fn word(&mut self, verb: Verb, option: u8, out: &mut Vec<u8>) -> Result<(), AllocError>
         ensures ok { OnOk result (self.new ≡ end_after_word self.old verb option) }
         ensures out { OnOk result (out.new.items ≡
@@ -115,8 +115,8 @@ impl ServerEnd {
         Ok(())
     }
 
-    /// Wishes for editing at one side, where the terminal's flags allow it, and says what follows.
-    /// Returns whether a MODE was sent.
+    /// Requests that one side edit lines, if the terminal's flags allow it, and appends all that
+    /// follows. Returns whether a MODE was sent.
     pub(crate) fn wish_for(
         &mut self,
         editing: Editing,
@@ -150,7 +150,8 @@ impl ServerEnd {
         Ok(sent)
     }
 
-    // A MODE of the client: an acknowledgement is in force from here on, and any other is a wish.
+    // Takes a MODE of the client: an acknowledgement is in force from then on, and any other MODE
+    // is a request.
     fn mode_got(&mut self, mask: u8, out: &mut Vec<u8>) -> Result<(), AllocError>
         ensures ok { OnOk result (self.new ≡ end_after_mode self.old mask) }
         ensures out { OnOk result (out.new.items ≡ out.old.items ++ spells (says_mode_got self.old mask)) }
@@ -175,7 +176,8 @@ impl ServerEnd {
         }
     }
 
-    // A list of local characters: the answers in one list, and the whole table if it was asked for.
+    // Answers a list of local characters: the answers in one list, and the whole table if it was
+    // asked for.
     fn list(&mut self, triples: &Triples, out: &mut Vec<u8>) -> Result<(), AllocError>
         requires { length triples.now ≤ max_triples }
         ensures ok { OnOk result (self.new ≡ end_after_list self.old triples.now) }

@@ -1,4 +1,4 @@
-//! Laws of the definitions alone.
+//! Laws of the server end, only over the definitions.
 
 ghost use Rattle.std.specs.Prelude.{◌≡◌, ◌≢◌, ◌↔◌, ◌<◌, ◌≤◌, ◌+◌, ◌*◌, ◌∷◌, ◌++◌, ℕ, IsTrue, List, All, []};
 ghost use Rattle.std.specs.{Prelude.{length, map}, List.flat_map};
@@ -37,13 +37,13 @@ pub fn items_come()
         opening_settings (gets h more) ≡ opening_settings h }
 {}
 
-/// Whatever an end says can be read again.
+/// Every reply of an end can be read again.
 pub fn replies_fit()
     ensures { (h : History) (e : Event) → All Fits (replies h e) }
 {}
 
-/// An end is a function of its history: for every history that led to it, its step at an event leads to the
-/// longer history, and it says what that history says more.
+/// An end is a function of its history. For every history that led to the end, the end's step at an
+/// event leads to the longer history, and its replies are those that the longer history has more.
 pub fn steps_stand()
     ensures leads { (h : History) (end : End) (e : Event) → LeadsTo h end →
         LeadsTo (next h e) (end_after end e) }
@@ -69,8 +69,8 @@ pub fn stops_stand()
         IsRefusedFor end item fault → IsCause h item fault }
 {}
 
-/// What an end shows is what its history says: the entries that wait, of which the first is taken, the symbols
-/// that wait to be pulled, and whether a wish sends a MODE.
+/// The observations of an end are those of its history: the entries that wait, of which the first
+/// is taken, the symbols that wait to be pulled, and whether a request sends a MODE.
 pub fn ends_show()
     ensures waiting { (h : History) (end : End) → LeadsTo h end → waiting h ≡ end.terminal.entries }
     ensures taken { (h : History) (end : End) → LeadsTo h end →
@@ -85,7 +85,7 @@ pub fn one_history()
     ensures { (c : Course) (h k : History) → ReadsAs c h → ReadsAs c k → h ≡ k }
 {}
 
-/// A new end is where its course begins.
+/// A new end is at the beginning of its course.
 pub fn course_begins()
     ensures { (canon : Canon) (end : End) → LeadsTo (begun canon) end → nvt.LeadsTo [] [] end.decoder →
         CourseLeadsTo (started canon) end }
@@ -100,8 +100,8 @@ pub fn course_fed()
         items_said k ≡ items_said h ++ says_items old f.items }
 {}
 
-/// A piece that is refused: the first of its items are done, and what was appended begins what all of them
-/// make the server say.
+/// After a refused piece, the first of its items are done, and the appended bytes begin the replies
+/// to all of its items.
 pub fn course_stopped()
     ensures { (c : Course) (old new : End) (piece before after : List ℕ) (fault : ServerFault)
         (h whole : History) → CourseLeadsTo c old → StopsWithin old piece fault before after new →
@@ -114,13 +114,14 @@ pub fn course_called()
         CourseLeadsTo (called c e) (end_after old e) }
 {}
 
-/// However a stretch of the stream is cut, it leads to the same.
+/// A stretch of the stream leads to one end, however it is cut.
 pub fn pieces_join()
     ensures { (c : Course) (p q : List ℕ) (h : History) → All (λ b. b < 256) (stream c ++ p) →
         ReadsAs (fed (fed c p) q) h ↔ ReadsAs (fed c (p ++ q)) h }
 {}
 
-/// However a text is cut into parts that fit, it is sent whole and in order where nothing waited before.
+/// A text that is cut into parts that fit is sent whole and in order, however it is cut, if nothing
+/// waited before.
 pub fn texts_are_whole()
     ensures sent { (h : History) (parts : List (List ℕ)) → queue h ≡ [] →
         All (λ part. length part ≤ queue_symbols) parts →
@@ -131,14 +132,14 @@ pub fn texts_are_whole()
         queue (in_parts h parts) ≡ [] }
 {}
 
-/// Whatever came and whatever was called, at most 4,096 symbols wait to be pulled, and the half line has at
-/// most as many bytes as a line counts before its closing byte.
+/// After any items and calls, at most 4,096 symbols wait to be pulled, and the half-typed line has
+/// at most as many bytes as a line counts before its closing byte.
 pub fn nothing_overflows()
     ensures symbols { (h : History) → length (queue h) ≤ queue_symbols }
     ensures half { (h : History) → length (half h) ≤ max_counted (limit h) }
 {}
 
-/// Whatever history led to an end, at most 1,024 entries wait at it.
+/// At most 1,024 entries wait at an end, whichever history led to it.
 pub fn entries_are_bounded(end: &ServerEnd)
     ensures { (h : History) → LeadsTo h end.now → length (waiting h) ≤ max_waiting }
 {
@@ -151,8 +152,9 @@ pub fn texts_fit()
     ensures waiting { (h : History) → IsTrue (is_limit (limit h)) → All (HasAtMost (limit h)) (waiting h) }
 {}
 
-/// A piece of n bytes makes at most n + 1 entries, since its first byte may complete two items. So one of at
-/// most 512 bytes finds room where at most 511 entries wait, and is refused for another cause if at all.
+/// A piece of n bytes makes at most n + 1 entries, since its first byte may complete two items. So
+/// a piece of at most 512 bytes finds room if at most 511 entries wait, and is refused for another
+/// cause if at all.
 pub fn pieces_find_room()
     ensures entries { (c : Course) (h whole : History) (piece : List ℕ) → All (λ b. b < 256) (stream c) →
         ReadsAs c h → ReadsAs (fed c piece) whole →
@@ -163,8 +165,8 @@ pub fn pieces_find_room()
         StopsWithin old piece fault before after new → fault ≢ ServerFault.Pty TooFarAhead }
 {}
 
-/// What an item is answered by at most: an option word by 43 bytes, a subnegotiation by 30 bytes more than it
-/// has itself, and any other by none.
+/// The reply to an item is bounded: to an option message 43 bytes, to a subnegotiation 30 bytes
+/// more than it has itself, and to any other item none.
 pub fn replies_bounded()
     ensures { (h : History) (item : Item) → AreAllowed (chars h) →
         length (spells (replies h (got item))) ≤ max_said item }
@@ -173,8 +175,8 @@ pub fn replies_bounded()
     answers_name_their_function();
 }
 
-/// A list of local characters is answered once: to what a client answered the server says nothing,
-/// in whatever state.
+/// A list of local characters is answered once: the server, in any state, does not reply to a
+/// client's answers.
 pub fn answers_are_not_answered()
     ensures { (h : History) (c : Characters) (ts : List Triple) →
         replies h (got (Sub option_code.linemode (parameters_of (Slc (client_answers c ts))))) ≡ [] }
@@ -208,9 +210,9 @@ pub fn dropping_goes_on()
         LeadsTo h old → nvt.IsLetGo old.decoder piece → ¬ StopsWithin old piece fault before after new }
 {}
 
-/// A client that edits nothing, as those of PuTTY, busybox and libtelnet: it acknowledges no EDIT, and
-/// neither it nor the owner changes a special character. Whatever else it says, the entries are the local
-/// entries of its data bytes, its commands having the roles that they have.
+/// A client that edits nothing, as PuTTY, busybox and libtelnet, acknowledges no EDIT. If neither
+/// it nor the owner changes a special character, the entries are the local entries of its data
+/// bytes and of the roles of its commands, whatever else it sends.
 pub fn remote_clients()
     ensures entries { (h : History) → StaysRemote h →
         entries h ≡ entries_of (limit h) (roles_of_items (opening_settings h) (items h)) }
@@ -222,8 +224,8 @@ pub fn remote_clients()
         half h ≡ typed_half (opening_canon h) (keys_of (items h)) }
 {}
 
-/// A client that edits, whoever made it: a line of ordinary bytes that fits, sent whole with a new line
-/// behind it where none was begun, is read as that line.
+/// A client of any maker that edits sends a line of ordinary bytes that fits, whole and with a new
+/// line after it. If no line was begun before, the server reads it as that line.
 pub fn whole_lines()
     ensures entries { (h : History) (bytes : List ℕ) → IsTrue (edits (mode h)) → half h ≡ [] →
         AreOrdinary (chars h) bytes → length bytes ≤ max_counted (limit h) →

@@ -1,4 +1,7 @@
-//! The server end of a Telnet connection, with the pseudoterminal pair behind it.
+//! The server end of a Telnet connection, with its pseudoterminal pair.
+//!
+//! Begin with `ServerEnd`, which one connection owns, and `Editing`, which says where its lines are
+//! edited.
 //!
 //! ```
 //! let mut end = ServerEnd::start(alloc, Settings::standard(), Limit::standard(), &mut out)?;
@@ -9,7 +12,7 @@
 //! }
 //! ```
 //!
-//! It opens no socket, starts no thread and runs no job; it does not hold back a peer that types
+//! It opens no socket, starts no thread and runs no job. It does not hold back a peer that types
 //! faster than its job reads, but fails after 1,024 entries.
 #![tactic(auto)]
 

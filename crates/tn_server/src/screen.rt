@@ -1,4 +1,4 @@
-//! Symbols of the screen as bytes of the stream.
+//! Writes symbols of the screen as bytes of the stream.
 
 ghost use Rattle.std.specs.Prelude.{◌≡◌, ◌+◌, ◌*◌, ◌<◌, ◌≤◌, ◌++◌, map, take, drop, length, vec_len};
 ghost use Rattle.std.specs.Prelude.{vec_capacity};
@@ -11,10 +11,11 @@ use tn_pty::Pair;
 
 const CR: u8 = b'\r';
 
-/// How many bytes a symbol takes at most.
+/// The most bytes that a symbol takes.
 pub(crate) const SYMBOL_BYTES: usize = 2;
 
-/// How many symbols go one by one where no run begins: a run is not looked for before each of them.
+/// The number of symbols that go one by one if no run begins: a run is not looked for before each
+/// of them.
 const FEW: usize = 8;
 
 /// Moves the first symbols of a pair to a vector that has room, each in its spelling.
@@ -30,8 +31,8 @@ pub(crate) fn spell_front(pair: &mut Pair, count: usize, out: &mut Vec<u8>)
     }
 }
 
-// Moves a run of symbols that are spelled as they are, and the symbol behind it, or a few symbols where no
-// run begins, and returns how many they are.
+// Moves a run of symbols that are spelled as they are, and the symbol after it, or a few symbols if
+// no run begins, and returns how many they are.
 fn spell_some(pair: &mut Pair, most: usize, out: &mut Vec<u8>) -> usize
     requires some { 0 < most }
     requires enough { most ≤ length pair.old.queue }
@@ -49,7 +50,7 @@ fn spell_some(pair: &mut Pair, most: usize, out: &mut Vec<u8>) -> usize
     run + more
 }
 
-// How many symbols go one by one behind a run of so many.
+// Returns the number of symbols that go one by one after a run of this length.
 fn count_behind(run: usize, most: usize) -> usize
     requires { run ≤ most }
     ensures within { run + result ≤ most }
@@ -64,7 +65,7 @@ fn count_behind(run: usize, most: usize) -> usize
     0
 }
 
-// Moves the run that the symbols begin with, unless they are few, and returns how long it is.
+// Moves the run that the symbols begin with, unless they are few, and returns its length.
 fn pull_front(pair: &mut Pair, most: usize, out: &mut Vec<u8>) -> usize
     requires enough { most ≤ length pair.old.queue }
     requires room { vec_len out.old + 2 * most ≤ vec_capacity out.old }

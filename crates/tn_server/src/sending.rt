@@ -1,4 +1,4 @@
-//! What a server end says of its special characters and forward masks.
+//! Appends a server end's special characters and forward masks.
 
 ghost use Rattle.std.specs.Prelude.{◌≡◌, ◌++◌, IsTrue, length, OnOk, OnErr};
 ghost use Rattle.tn_nvt.specs.{Room.LacksRoom, Spelling.spells};
@@ -9,7 +9,7 @@ use std::alloc::AllocError;
 use tn_codes::{Func, Mask, Payload};
 use tn_linemode::{put_payload, put_triple, triple_of};
 
-/// Appends the triple of one character, where it is to be told.
+/// Appends the triple of one character, if it is to be sent.
 pub(crate) fn put_char(
     is_told: bool,
     func: Func,
@@ -27,7 +27,7 @@ pub(crate) fn put_char(
     put_triple(triple_of(func, value), out)
 }
 
-/// Appends a forward mask, or that there is none any more.
+/// Appends a forward mask, or the message that there is none any more.
 pub(crate) fn put_mask(mask: Option<Mask>, out: &mut Vec<u8>) -> Result<(), AllocError>
     ensures ok { OnOk result (out.new.items ≡
         out.old.items ++ spells (payload_items (forward_payload mask))) }

@@ -9,7 +9,7 @@ use tn_nvt::{Item, Params, Refused, Sink};
 pub(crate) struct Lent<'a> {
     pub(crate) end: &'a mut ServerEnd,
     pub(crate) out: &'a mut Vec<u8>,
-    /// Why it refused an item, once it did.
+    /// The cause why the end refused an item, once it did.
     pub(crate) cause: ServerFault,
 }
 

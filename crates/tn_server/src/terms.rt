@@ -1,4 +1,4 @@
-//! What a server end has agreed on with its client.
+//! The terms on which a server end has agreed with its client.
 
 ghost use Rattle.std.specs.Prelude.{◌≡◌, ◌≢◌, ◌≤◌, ◌⊎◌, [], ◌++◌, true, is_some, length, vec_capacity, IfOk};
 ghost use Rattle.std.specs.Prelude.{OnOk, OnErr};
@@ -14,7 +14,7 @@ use tn_discipline::Flags;
 use tn_linemode::{ServerMode, ServerTable, put_list, put_mode, put_word};
 use tn_option::{Agree, ECHO, Engine, LINEMODE, NAWS, SUPPRESS_GO_AHEAD, Side};
 
-/// The options, the masks, and the mask of the last wish that was allowed.
+/// The options, the masks, and the mask of the last request that was allowed.
 #[derive(Clone, Copy)]
 pub(crate) struct Negotiation {
     pub(crate) options: Engine,
@@ -23,7 +23,7 @@ pub(crate) struct Negotiation {
 }
 
 impl Negotiation {
-    /// The opening wishes have been said.
+    /// Makes the terms after the opening requests were sent.
     pub(crate) fn new() -> Negotiation
         ensures options { result.options ≡ opening_options }
         ensures modes { result.modes ≡ no_mode }
@@ -48,8 +48,8 @@ impl Negotiation {
         self.options.is_on(Side::Us, ECHO)
     }
 
-    /// Asks for the wish where LINEMODE is on: the MODE to send. A change of LINEMODE forgets what was
-    /// asked and acknowledged before.
+    /// Asks for the requested mask if LINEMODE is on, and returns the MODE to send. A change of
+    /// LINEMODE discards what was asked and acknowledged before.
     pub(crate) fn ask_mode(&mut self, was_on: bool) -> Option<u8>
         ensures told { result ≡ told_now was_on self.old }
         ensures masks { self.new ≡ record self.old { modes = masks_by was_on self.old } }
@@ -65,8 +65,8 @@ impl Negotiation {
         }
     }
 
-    /// Where it is due, asks for the server's own ECHO, or asks to be rid of it, and appends the word, if
-    /// one is to be said.
+    /// Asks for the server's own ECHO, or to be rid of it, if that is due, and appends the message,
+    /// if there is one.
     pub(crate) fn ask_echo(
         &mut self,
         is_due: bool,
@@ -100,8 +100,9 @@ impl Negotiation {
         }
     }
 
-    /// Says what follows from new options, a wish or a flag: the table where LINEMODE came on, the MODE
-    /// that was not asked before, and the word for ECHO. Returns whether a MODE was sent.
+    /// Appends all that follows from new options, a request or a flag: the table if LINEMODE came
+    /// on, the MODE that was not asked before, and the message for ECHO. Returns whether a MODE was
+    /// sent.
     pub(crate) fn settle(
         &mut self,
         alloc: Global,
@@ -120,7 +121,7 @@ impl Negotiation {
             out.new.items) }
         ensures some { OnErr result (negotiation_items was_on is_set flags.now table.now self.old ≢ []) }
 
-        // Where the table is told, its triples are listed first, which takes memory of its own.
+        // If the table is sent, its triples are listed first, which takes memory of its own.
         ensures full { let said = negotiation_items was_on is_set flags.now table.now self.old in
             OnErr result (LacksRoom out.old (length (spells said))
             ⊎ (new_table_items was_on (linemode self.old.options) table.now ≢ [])) }
@@ -135,7 +136,7 @@ impl Negotiation {
     }
 }
 
-// Appends the whole table, where LINEMODE came on.
+// Appends the whole table, if LINEMODE came on.
 fn put_table(
     alloc: Global,
     was_on: bool,

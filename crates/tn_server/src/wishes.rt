@@ -1,4 +1,4 @@
-//! Where a line is edited.
+//! The request for a side that edits lines.
 
 ghost use Rattle.std.specs.Prelude.{◌≡◌};
 ghost use Rattle.tn_server.specs.Terms.{mask_for};
@@ -6,17 +6,17 @@ ghost use Rattle.tn_server.specs.Terms.{mask_for};
 use tn_discipline::Flags;
 use tn_linemode::{EDIT, TRAPSIG};
 
-/// Where the lines of a session are to be edited.
+/// The side that is to edit the lines of a session.
 #[derive(Clone, Copy, Debug, PartialEq, Eq)]
 pub enum Editing {
-    /// At the server, key by key.
+    /// The server edits, key by key.
     Remote,
-    /// At the client, which sends whole lines (RFC 1184, EDIT).
+    /// The client edits, and sends whole lines (RFC 1184, EDIT).
     Local,
 }
 
 impl Editing {
-    /// The mask that asks a client for this; none where the terminal's flags rule it out.
+    /// Returns the mask that asks a client for this; `None` if the terminal's flags rule it out.
     pub(crate) fn mask(self, flags: &Flags) -> Option<u8>
         ensures { result ≡ mask_for flags.now self }
     {

@@ -1,4 +1,4 @@
--- What the messages to the core bring, of what the readers gave.
+-- The bytes that the messages to the core bring, of those that the readers gave.
 use Rattle.std.proofs.Common.{◌≡◌, ℕ, Bool, true, false, List, [], ◌∷◌, ◌++◌, Option, Some, None, refl, sym, ap, ◌∙◌, ⊎_elim, map, subst, append-nil}
 use Rattle.std.proofs.{Common.append_assoc, lemmas.{List.map-append, Grind.flat_map-append}}
 use Rattle.std.specs.{Io.KnownBytes.Consumes, List.concat}
@@ -47,7 +47,7 @@ keys_all : (xs : List Mail) → brought origin.Keys (all_told xs) ≡ bytes_sent
 keys_all [] = refl
 keys_all (x ∷ xs) = keys_more x.from x.message xs (keys_all xs)
 
--- and where nobody else sends, the rest is what Net sent
+-- if no other thread sends, the rest is what Net sent
 some_mail : (x : Mail) (xs : List Mail) → x ∷ xs ≡ [] → ⊥
 some_mail x xs e = cc
 
@@ -166,7 +166,7 @@ request_asked Refused = refl
 request_asked Left = refl
 request_asked (Resized size) = refl
 
--- they are those that Keys told
+-- they are those that Keys sent
 requests_more : (s : Sender) (m : Message) (xs : List Mail) → all_asked (inputs_brought (all_told xs)) ≡ map input_of (asked_sent (from Keys xs))
     → all_asked (inputs_brought (all_told (mail s m ∷ xs))) ≡ map input_of (asked_sent (from Keys (mail s m ∷ xs)))
 requests_more Keys m xs ih =

@@ -14,7 +14,7 @@ from_hit s x xs is = rw is refl
 pub from_miss : (s : Sender) (x : Mail) (xs : List Mail) → same x.from s ≡ false → from s (x ∷ xs) ≡ from s xs
 from_miss s x xs is = rw is refl
 
--- one of these tells that reading failed
+-- one of these messages reports that reading failed
 abbrev pub HasFailure : List Message → Type 0
 HasFailure [] = ⊥
 HasFailure (m ∷ ms) = (m ≡ ReadFailed) ⊎ HasFailure ms
@@ -29,7 +29,7 @@ pub has_failure : {K : Type 0} (marked : List (Message × K)) (before : List (Me
 has_failure {K} marked before last after whole e = subst (λ (ms : List (Message × K)). HasFailure (map (λ m. m.0) ms)) (sym whole)
     (has_split (λ (m : Message × K). m.0) before last after e)
 
--- it is in the list of its sender
+-- a report that reading failed is in the list of its sender
 pub failure_from : (mails : List Mail) → HasFailure (messages_of mails) → (s : Sender) × HasFailure (messages_of (from s mails))
 failure_from [] h = absurd h
 failure_from (x ∷ xs) h =
@@ -53,7 +53,7 @@ no_control c e = cc
 no_left : Left ≡ ReadFailed → ⊥
 no_left e = cc
 
--- of a thread that reads, after its pieces
+-- a thread that reads reports a failure after its pieces
 pub failure_last : (told : List Telling) (last : Message) → HasFailure (told_messages told ++ last ∷ Left ∷ []) → last ≡ ReadFailed
 failure_last [] last h = ⊎_elim (λ e. e) (λ f. ⊎_elim (λ e. absurd (no_left e)) (λ none. absurd none) f) h
 failure_last (piece_told p ∷ told) last h = ⊎_elim (λ e. absurd (no_piece p e)) (λ f. failure_last told last f) h

@@ -67,7 +67,7 @@ read_cause stopped keys_reader net_reader from_keys from_net handled keys net ma
     by Desk h = absurd (none Desk (woven Desk) h)
     by Back h = absurd (none Back (woven Back) h)
 
--- a mark that says otherwise
+-- a mark that is not so
 by_false : (is : ClientMark → Bool) (marked before : List (Told × ClientMark)) (last : Told × ClientMark) (after : List (Told × ClientMark)) → marked
     ≡ before ++ last ∷ after
     → is last.1 ≡ false → all_by is marked ≡ false

@@ -46,7 +46,7 @@ settles_two pass net keys p₁ p₂ p₃ n' p₄ k' p₅ e₁ e₂ e₃ held en 
       all_woven p₂ h a [] [] d whole held,
     )
 
--- where nothing failed, all was written
+-- if nothing failed, all was written
 all_out : (marked : List (Told × ClientMark)) (rest : List ℕ) → (all_written marked ≡ true → rest ≡ []) → (all_whole marked ≡ false → false ≡ true) → rest ≡ []
 all_out marked rest all never = by (all_written marked) refl
   where

@@ -1,4 +1,4 @@
--- What the core's thread wrote and showed, one message after another.
+-- The bytes that the core's thread wrote and showed, one message after another.
 use Rattle.std.proofs.Common.{◌≡◌, ℕ, Bool, true, false, not, ◌||◌, ◌&&◌, ◌⊎◌, ⊎_elim, inl, inr, List, [], ◌∷◌, ◌++◌, map, Option, refl, sym, ap, ◌∙◌, subst}
 use Rattle.std.proofs.{Common.{append_assoc, append-nil}, lemmas.{Bool.false_from_ne_true, Fn.FoldsTo-push, List.map-append}}
 use Rattle.std.specs.Io.KnownBytes.{Appends, Keeps}
@@ -15,7 +15,7 @@ use Rattle.tn_session.specs.{Stops.{StandsTold, core_stops, has_left}, Transcrip
 use Rattle.tn_cores.proofs.lemmas.streams.{Writing.{appends_more, appends_kept, appends_none}, Telling.{accounts_none, accounts_well, accounts_both}}
 use Rattle.tn_cores.specs.declared.faults.SessionFault.TheVariants as fault
 
--- a front was shown, and all where no write failed
+-- a front was shown, and all if no write failed
 record Written (b : Bool) (x y : Option (List ℕ)) (bytes : List ℕ) : Type 0 where
   front : List ℕ
   back : List ℕ
@@ -34,7 +34,7 @@ none_front bytes (b ∷ bs) back e none = absurd (some b (bs ++ back) (sym e ∙
     some : (x : ℕ) (xs : List ℕ) → x ∷ xs ≡ [] → ⊥
     some x xs f = cc
 
--- where less was written than is to be, as if the rest had been left over
+-- if less was written than is to be, as if the rest had been left over
 rest_less : (all less : Bool) (s₀ s₁ bytes front back rest : List ℕ) → bytes ≡ front ++ back → (less ≡ true → all ≡ true) → (less ≡ true → back ≡ [])
     → s₁ ≡ s₀ ++ (bytes ++ rest) → (all ≡ true → rest ≡ []) → (more : List ℕ) × (s₁ ≡ s₀ ++ (front ++ more)) × (less ≡ true → more ≡ [])
 rest_less all less s₀ s₁ bytes front back rest e weaker none is whole = (
@@ -126,7 +126,7 @@ never_whole : (w : Bool) → is_whole (failed_mark w) ≡ true → ⊥
 never_whole true e = false_true e
 never_whole false e = false_true e
 
--- a write to the screen is told where the network took all
+-- a write to the screen is reported if the network took all
 shows_failed : (w s : Bool) (i j : Option Calls) → (w && s) ≡ false → Tells s i j → Tells (no_show_failed (failed_mark w)) i j
 shows_failed true s i j e told = subst (λ (v : Bool). Tells v i j) e told
 shows_failed false s i j e told = accounts_well max_writes s i j told
@@ -225,7 +225,7 @@ whole_written mark.WriteFailed e = e
 whole_written mark.ShowFailed e = refl
 whole_written (mark.Refused f) e = e
 
--- what goes on by one message more: it, its mark, and what was written after it
+-- the core's state after one message more: the message, its mark, and the bytes that were written after it
 abbrev pub MovesOn : {a b d : Core} {ms ns : List Told} {w s w₁ s₁ : KnownWriting} → ToldAll a ms w s b → ToldAll a ns w₁ s₁ d → Told × ClientMark → List ℕ →
     Type 0
 MovesOn one next m bytes = (next.marked ≡ one.marked ++ m ∷ []) × (next.steps ≡ one.steps ++ (m, bytes) ∷ [])
@@ -335,7 +335,7 @@ told_kept a b ms x y z u v k same g = (
   refl,
 )
 
--- before the first mail
+-- the core's state before the first mail
 pub told_first : (a : Core) (x u : KnownWriter) → (goes : ToldAll a [] (from_to x x) (from_to u u) a)
     × NotesAll [] (map (λ s. s.1) goes.steps) no_notes no_notes
 unfolding told_none
@@ -350,7 +350,7 @@ told_next a b d xs m x y z k u v w n o keeps same one t =
     let kept = told_kept a d _ x z k u w keeps same on.0 in
     subst P (sym (map-append told_of xs (m ∷ []))) (kept.0, (kept.1 ∙ on.1.0, kept.2 ∙ on.1.1))
 
--- whether it was told to stop, after one mail more
+-- whether it was asked to stop, after one more message
 pub core_told : (a b d : Core) (xs : List Mail) (x : Mail) (w s w₁ s₁ w₂ s₂ : KnownWriting) (o r : Noted) (told due now gone : Bool)
     (one : ToldAll a (all_told xs) w s b) (t : TurnsTold b (told_of x) w₁ s₁ o r d) (next : ToldAll a (all_told (xs ++ x ∷ [])) w₂ s₂ d)
     → next.marked ≡ one.marked ++ (told_of x, t.mark) ∷ [] → gone ≡ has_left Keys (xs ++ x ∷ []) → due ≡ (core_stops d.progress && not gone)

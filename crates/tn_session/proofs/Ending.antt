@@ -1,4 +1,5 @@
--- What the run heard of the reader, and what the foreground job took where a hang-up ended the session.
+-- The part of the reader's bytes that the run read, and the entries that the foreground job took if a hang-up
+-- ended the session.
 use Rattle.std.proofs.Common.{◌≡◌, ℕ, Bool, true, false, ◌&&◌, length, List, [], ◌∷◌, ◌++◌, Option, Some, None, refl, sym, ap, ◌∙◌, ⊎_elim, inl, inr, map}
 use Rattle.std.proofs.{Common.{subst, append-nil, append_assoc}, lemmas.List.append_cancel_left}
 use Rattle.std.specs.{Io.KnownBytes.{Consumes, IsAtEnd, prepend_known}, List.concat}
@@ -24,7 +25,7 @@ use Rattle.tn_linemode.specs.Prefixes.{IsRead}
 true_false : true ≡ false → ⊥
 true_false e = cc
 
--- WHAT NET ALONE SENDS
+-- THE MESSAGES OF NET
 
 abbrev is_of_net : Message → Bool
 is_of_net (Piece piece) = true
@@ -62,7 +63,7 @@ brings_nothing at_end Left e = record { may = tt; after = refl; bytes = refl }
 brings_nothing at_end (Resized size) e = record { may = tt; after = refl; bytes = refl }
 brings_nothing at_end (Asked control) e = record { may = tt; after = refl; bytes = refl }
 
--- what holds of the mails of all others
+-- the facts of the messages of all others
 abbrev Others : List Mail → Type 0
 Others mails = (s : Sender) → same s Net ≡ false → NoneOfNet (messages_of (from s mails))
 
@@ -104,7 +105,7 @@ of_net : (at_end : Bool) (mails : List Mail) → Others mails → MayAllCome at_
 of_net at_end [] others may = record { may = tt; bytes = refl }
 of_net at_end (x ∷ xs) others may = of_net_next at_end x xs others (λ b m. of_net b xs (others_tail x xs others) m) may
 
--- its list
+-- the messages that the reader sends may all come
 net_may : (told : List Telling) (last : Message) (left : Option (List ℕ)) → IsEnding last left → MayAllCome false (told_messages told ++ last ∷ Left ∷ [])
 net_may (piece_told p ∷ told) last left e = (refl, net_may told last left e)
 net_may (size_told s ∷ told) last left e = (tt, net_may told last left e)
@@ -134,7 +135,7 @@ net_bytes [] Left left e = absurd e
 net_bytes [] (Resized s) left e = absurd e
 net_bytes [] (Asked control) left e = absurd e
 
--- what is said of the reader before that brings nothing, ends nothing and is no failure
+-- the messages of the reader before that which bring nothing, end nothing and are no failure
 text_may : (at_end : Bool) (ms rest : List Message) (job : JobId) (text : List ℕ) → MayAllCome at_end (ms ++ rest)
     → MayAllCome at_end (ms ++ Said job text Stay ∷ rest)
 text_may at_end [] rest job text m = (tt, m)
@@ -197,7 +198,7 @@ messages_from s v mails handled ms e f is =
     let same : mails ≡ map (mail s) ms = some_is mails (map (mail s) ms) (sym (sender_share s mails v e) ∙ sender_share s (map (mail s) ms) v f) in
     ap messages_of (is ∙ same) ∙ messages-map s ms
 
--- each message of a sender keeps on where all do
+-- each message of a sender keeps on if all do
 keep_from : (id : ℕ) (s : Sender) (mails : List Mail) → AllKeepOn id (messages_of mails) → AllKeepOn id (messages_of (from s mails))
 keep_from id s [] k = tt
 keep_from id s (x ∷ xs) k = by (keep_from id s xs k.1) (same x.from s) refl
@@ -216,7 +217,7 @@ not_done id [] more e k = e
 not_done id (t ∷ []) more e k = k.1.0 e refl
 not_done id (t ∷ u ∷ us) more e k = not_done id (u ∷ us) more e k.1.1
 
--- and the desk left because the end came
+-- the desk left because the end came
 at_end_of : (id : JobId) (refuses : Entry → Type 0) (turns : List (Entry × Reaction)) (v : View) (w : EntryHand) → Closes id refuses turns v w
     → ((ms : List Message) → v ≡ sender Desk (map (mail Desk) ms) → AllKeepOn id.0 ms) → w ≡ taker (entries_of turns ++ None ∷ [])
 at_end_of id refuses turns v w c keeps =
@@ -263,7 +264,7 @@ net_at_end id Left left e k = absurd e
 net_at_end id (Resized s) left e k = absurd e
 net_at_end id (Asked control) left e k = absurd e
 
--- what the left bytes leave of the known ones
+-- the known bytes that are left by those that were read
 known_left : (bytes stream : List ℕ) (left : Option (List ℕ)) → Consumes (Some bytes) left stream → (rest : List ℕ) × (bytes ≡ stream ++ rest)
     × (IsAtEnd left → rest ≡ [])
 known_left bytes stream None c = absurd c
@@ -321,7 +322,7 @@ module _ {J : Type 0} {facts : JobActs J} {jobs : SessionJobs J} {settings : Ter
       × SaysLast (Some jobs.first) reader.words last said × (s.read.2 ≡ said ++ last ∷ Left ∷ [])
   net_end = closes_ending (Some jobs.first) reader (pieces_in s.read.0) s.read.1 s.read.2 s.read.4
 
-  -- and what was said of the reader
+  -- the messages of the reader are those of its last words
   net_words : IsSaid net_end.2
   net_words = is_said (Some jobs.first) reader.words net_end.0 net_end.2 net_end.3
 
@@ -341,7 +342,7 @@ module _ {J : Type 0} {facts : JobActs J} {jobs : SessionJobs J} {settings : Ter
   pub all_pieces : heard messages ≡ concat (pieces_in s.read.0)
   all_pieces = ap heard s.messages ∙ nets.bytes ∙ ap heard net_said ∙ said_bytes s.read.0 net_end.2 net_end.0 s.read.1 net_words net_end.1.0
 
-  -- and so those that its pass knows
+  -- the pieces that were handled are those that its pass knows
   pub came_by_net : heard messages ≡ came_by result.views.net.net
   came_by_net =
       ap heard s.messages ∙ nets.bytes ∙ ap (λ (l : List Mail). heard (messages_of l)) (s.woven Net) ∙ heard_of_mails s.from_net
@@ -414,7 +415,7 @@ module _ {J : Type 0} {facts : JobActs J} {jobs : SessionJobs J} {settings : Ter
       by Back h = absurd (none_fails (messages_of (from Back s.handled)) none_of_back h)
       by Keys h = absurd (none_fails (messages_of (from Keys s.handled)) (none_of_others Keys refl) h)
 
-  -- and where a write is told to have failed, one did
+  -- if a write is reported to have failed, one did
   pub write_cause : (c : Run) → IsFaultCause s.wrote_opening c s.marked fault.Write → SomeFailed max_writes writer.before.calls writer.after.calls
   write_cause c why =
       some_failed max_writes (s.wrote_opening && no_writes_failed s.marked) writer.before.calls writer.after.calls s.tells

@@ -1,9 +1,9 @@
--- The writer is told once that no more comes, and nothing is written after that.
+-- The writer is finished once, and nothing is written after that.
 use Rattle.std.proofs.Common.{◌≡◌, Bool, true, false, ◌||◌, Option, refl, ap, ◌∙◌, subst, sym}
 use Rattle.tn_session.specs.Closing.{Closes}
 use Rattle.tn_cores.specs.streams.Sending.{Sending, finished_on, StaysOpen, IsFinished}
 
--- how far the writer was told: more may come, or it was told and nothing more is sent
+-- the state of the writer: more may come, or it was finished and nothing more is sent
 abbrev pub StandsAt : Bool → Bool → Option Sending → Option Sending → Type 0
 StandsAt false done first now = StaysOpen first now
 StandsAt true done first now = IsFinished first now × (done ≡ true)
@@ -27,7 +27,7 @@ stands_next false false told done now first old mid new at more silent stays by 
     let P : Bool → Type 0 = λ t. StandsAt t now first new in
     subst P (sym c.0) (λ e. c.1 ∙ more (at e))
 
--- at the end it was told
+-- the sending was finished at the end
 pub stands_last : (closed done : Bool) (first old new : Option Sending) → StandsAt closed done first old → Closes true closed true old new
     → IsFinished first new
 stands_last true done first old new at c e = c.1 ∙ at.0 e

@@ -1,4 +1,4 @@
--- What was written, and one message after another.
+-- The bytes that were written, one message after another.
 use Rattle.std.proofs.Common.{◌≡◌, ℕ, ◌+◌, ◌≤◌, Bool, true, false, not, ◌||◌, ◌&&◌, ◌⊎◌, ⊎_elim, inl, inr, map, List, [], ◌∷◌, ◌++◌, Option, Some, refl, sym}
 use Rattle.std.proofs.Common.{ap, ◌∙◌, subst, append_assoc, append-nil, take-append-drop, arith, length, take, drop, zero, suc, nat_eq}
 use Rattle.std.proofs.lemmas.{Bool.{false_from_ne_true, not-false, not-true}, Fn.FoldsTo-push, List.map-append}
@@ -30,7 +30,7 @@ no_rest (suc n) [] h = refl
 no_rest zero (x ∷ xs) h = absurd (omega arith)
 no_rest (suc n) (x ∷ xs) h = no_rest n xs (omega arith)
 
--- and noted
+-- the bytes that were written are noted
 pub notes_so_many : (x y : Option (List ℕ)) (n : ℕ) (bytes : List ℕ) (t u : Noted) → Appends x y (take n bytes) → u ≡ writes t (take n bytes)
     → NotesWrite (nat_eq n (length bytes)) x y bytes t u
 notes_so_many x y n bytes t u h e = record {
@@ -49,7 +49,7 @@ notes_as w v x y bytes others t u f e h =
     let Q : Bool → Type 0 = λ b. NotesWrite b x y bytes t u in
     subst P e (subst Q f h)
 
--- where less was written than is to be, as if the rest had not been sent
+-- if less was written than is to be, as if the rest had not been sent
 turn_front : (m : ServerMark) (old new : Term) (message : Message) (front back bytes : List ℕ) (put last : Put) → bytes ≡ front ++ back → is_whole m ≡ false
     → IsTurn m old message bytes put last new → IsTurn m old message front put last new
 turn_front m old new message front back bytes put last e broken t = record {
@@ -172,7 +172,7 @@ map-push : (ms : List (Message × ServerMark)) (m : Message × ServerMark) (xs :
 map-push [] m xs e = ap (λ (ys : List Message). ys ++ m.0 ∷ []) e
 map-push (n ∷ ms) m xs e = ap (λ (ys : List Message). n.0 ∷ ys) (map-push ms m (map (λ u. u.0) ms) refl) ∙ ap (λ (ys : List Message). ys ++ m.0 ∷ []) e
 
--- what is left over after one more
+-- the bytes that are left over after one more message
 pub left_over : (a b : Bool) (s₀ s₁ s₂ b₁ b₂ r₁ r₂ : List ℕ) → s₁ ≡ s₀ ++ (b₁ ++ r₁) → s₂ ≡ s₁ ++ (b₂ ++ r₂) → (a ≡ true → r₁ ≡ []) → (b ≡ true → r₂ ≡ [])
     → (a ≡ false → (b₂ ≡ []) × (b ≡ true)) → (rest : List ℕ) × (s₂ ≡ s₀ ++ ((b₁ ++ b₂) ++ rest)) × ((a && b) ≡ true → rest ≡ [])
 left_over true b s₀ s₁ s₂ b₁ b₂ r₁ r₂ e₁ e₂ w₁ w₂ q = (
@@ -206,7 +206,8 @@ and_false false b e = inl refl
 abbrev pub from_to : KnownWriter → KnownWriter → KnownWriting
 from_to x y = record { before = x; after = y }
 
--- what goes on by one message more: it, its mark, and what was written after it
+-- the terminal's state after one message more: the message, its mark, and the bytes that were written after
+-- it
 abbrev pub MovesOn : {a d : Term} {ms ns : List Message} {w w₁ : KnownWriting} {puts later : List (Option Entry)} {b : Term} → GoesOn a ms w puts b
     → GoesOn a ns w₁ later d → Message × ServerMark → List ℕ → Type 0
 MovesOn one next m bytes = (next.marked ≡ one.marked ++ m ∷ []) × (next.steps ≡ one.steps ++ (m, bytes) ∷ [])
@@ -316,7 +317,7 @@ going_next a b d xs x u y w z puts n o v h k told one t =
     let kept = going_kept a d _ u w z more k told on.0 in
     subst P (sym (messages-push xs x)) (kept.0, (kept.1 ∙ on.1.0, kept.2 ∙ on.1.1))
 
--- before the first mail
+-- the terminal's state before the first mail
 pub going_first : (a : Term) (x y : KnownWriter) (t : Noted) → Keeps x.bytes y.bytes → y.calls ≡ x.calls → (goes : GoesOn a [] (from_to x y) [] a)
     × NotesAll [] (map (λ s. s.1) goes.steps) t t
 unfolding going_kept going_none
@@ -325,7 +326,7 @@ going_first a x y t k told = (
   record { more = []; noted = sym (append-nil (notes t)); took = refl; wrote = refl },
 )
 
--- what was noted, after one mail more
+-- the notes, after one message more
 pub notes_more : (xs : List Mail) (x : Mail) (ws : List (List ℕ)) (bytes : List ℕ) (t u v w : Noted) → NotesAll xs ws t u → v ≡ takes u x → w ≡ writes v bytes
     → NotesAll (xs ++ x ∷ []) (ws ++ bytes ∷ []) t w
 notes_more xs x ws bytes t u v w one took wrote =
@@ -339,7 +340,7 @@ notes_more xs x ws bytes t u v w one took wrote =
       wrote = map-append (λ (n : Note). n.wrote) one.more (note ∷ []) ∙ ap (λ (l : List (List ℕ)). l ++ bytes ∷ []) one.wrote;
     }
 
--- the same of what goes on
+-- the notes of what goes on
 pub notes_next : {S : Type 0} (xs : List Mail) (x : Mail) (steps next : List (S × List ℕ)) (m : S) (bytes : List ℕ) (t u v w : Noted)
     → NotesAll xs (map (λ s. s.1) steps) t u → next ≡ steps ++ (m, bytes) ∷ [] → v ≡ takes u x → w ≡ writes v bytes
     → NotesAll (xs ++ x ∷ []) (map (λ s. s.1) next) t w
@@ -352,7 +353,7 @@ pub notes_kept : {S : Type 0} (xs : List Mail) (steps same : List (S × List ℕ
     → NotesAll xs (map (λ s. s.1) same) t u
 notes_kept {S} xs steps same t u is one = subst (λ (l : List (S × List ℕ)). NotesAll xs (map (λ s. s.1) l) t u) (sym is) one
 
--- whether Back was told to stop, after one mail more
+-- whether Back was asked to stop, after one more message
 pub term_told : (a b d : Term) (xs : List Mail) (x : Mail) (w w₁ w₂ : KnownWriting) (puts later : List (Option Entry)) (r o : Noted) (v h : EntryHand)
     (told due now gone : Bool) (one : GoesOn a (messages_of xs) w puts b) (t : TurnsMessage b x.message w₁ r o v h d)
     (next : GoesOn a (messages_of (xs ++ x ∷ [])) w₂ later d) → next.marked ≡ one.marked ++ (x.message, t.mark) ∷ [] → gone ≡ has_left Back (xs ++ x ∷ [])

@@ -1,4 +1,4 @@
--- Where each sender's list ends in its one Left, and all Lefts were handled, nothing is left over.
+-- If each sender's list ends in its one Left, and all Lefts were handled, nothing is left over.
 use Rattle.std.proofs.Common.{◌≡◌, ◌+◌, ◌≤◌, ◌<◌, ℕ, Bool, true, false, List, [], ◌∷◌, ◌++◌, refl, sym, ap, ◌∙◌, subst, arith}
 use Rattle.tn_session.specs.{declared.workers.mail.{Sender.{Sender, TheVariants.{Net, Desk, Back, Keys}}, Mail.Mail}, Turns.{left_one, lefts_of}}
 use Rattle.tn_session.specs.workers.Mailbox.{same, from, four, Interleaves}
@@ -62,7 +62,7 @@ part_of s (x ∷ xs) = at_test (part_of s xs) (same x.from s) refl
     at_test ih true is = let e = lefts_here s x xs is in omega arith
     at_test ih false is = let e = lefts_else s x xs is in omega arith
 
--- where as many Lefts were handled as were sent in all, the mailbox is empty
+-- if as many Lefts were handled as were sent in all, the mailbox is empty
 nothing_left : (h items : List Mail) (sent : Sender → List Mail) → Interleaves (h ++ items) sent → ((s : Sender) → EndsLeft (sent s))
     → lefts_of (sent Net) + lefts_of (sent Desk) + lefts_of (sent Back) + lefts_of (sent Keys) ≤ lefts_of h → items ≡ []
 nothing_left h [] sent woven ends count = refl

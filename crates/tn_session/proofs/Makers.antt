@@ -1,4 +1,4 @@
--- How many jobs were made.
+-- The number of jobs that were made.
 use Rattle.std.proofs.Common.{◌≡◌, ℕ, ◌+◌, ◌≤◌, Option, Some, None, IfSome, Ok, Err, List, [], ◌∷◌, ◌++◌, length, refl, sym, ap, ◌∙◌, subst, arith}
 use Rattle.std.proofs.lemmas.Fn.{FoldsTo-push}
 use Rattle.std.specs.List.{FoldsTo}
@@ -55,7 +55,7 @@ jobs_longer : {J : Type 0} (queue : List (Runner J)) (r : Runner J) → jobs_of 
 jobs_longer [] r = refl
 jobs_longer (x ∷ queue) r = ap (λ l. x.job ∷ l) (jobs_longer queue r)
 
--- and it is the last
+-- the job that was added stands last in the queue
 pub one_last : {J : Type 0} (queue later : List (Runner J)) (r : Runner J) → later ≡ queue ++ r ∷ [] → jobs_of later ≡ jobs_of queue ++ r.job ∷ []
 one_last queue later r e = ap (λ l. jobs_of l) e ∙ jobs_longer queue r
 
@@ -67,7 +67,7 @@ gave_first {M} {J} gives a b job first queue one e none =
     let Q : J → Type 0 = λ j. FoldsTo gives a (j ∷ []) b in
     subst P (sym none) (subst Q (sym e) (FoldsTo-push gives a [] a job b refl one))
 
--- and one more
+-- the maker gave one job more
 pub gave_more : {M J : Type 0} (gives : M → J → M → Type 0) (a b d : M) (first later job : J) (queue more : List (Runner J))
     → FoldsTo gives a (first ∷ jobs_of queue) b → gives b job d → later ≡ first → jobs_of more ≡ jobs_of queue ++ job ∷ []
     → FoldsTo gives a (later ∷ jobs_of more) d

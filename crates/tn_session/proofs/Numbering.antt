@@ -50,7 +50,7 @@ module _ {J : Type 0} (fresh : J → Type 0) where
         (fresh_more queue r f l.0, apart_more queue r apart l.1),
       )
 
--- the first job alone
+-- the table holds only the first job
 pub first_alone : (empty one new : Jobs) (first : JobId) → empty ≡ [] → Adds empty one first.0 → ((id : ℕ) → state_at [] id ≡ None)
     → state_at new first.0 ≡ Some job.Foreground → ((id : ℕ) → id ≢ first.0 → state_at new id ≡ state_at one id) → Numbered new first []
 first_alone empty one new first e a none here there = record {

@@ -1,4 +1,4 @@
--- A session whose messages are welcome doesn't end because too many entries wait.
+-- A session whose messages are welcome does not end because too many entries wait.
 use Rattle.std.proofs.Common.{◌≡◌, ℕ, Bool, true, false, List, sym, ap, ◌∙◌, subst}
 use Rattle.tn_cores.specs.{Counting.first_end, declared.{faults.Ended.{Ended, TheVariants.{HangUp, Done, Fault}}, messages.Message.Message}, server.Run.Run}
 use Rattle.tn_cores.specs.{server.{Marks.run_after_opening, Reaching.LeadsTo, Welcoming.{IsWelcome, too_far_ahead}}, declared.server.terminal.Term.Term}
@@ -36,7 +36,7 @@ opened_was : (written : Bool) (c : Run) → (run_after_opening written c).progre
 opened_was true c e = e
 opened_was false c e = first_was c.progress.ended e
 
--- the opening words
+-- the opening messages
 pub reach_opened : (old new : Term) (words : List ℕ) (w : KnownWriting) (n t : Noted) (ended : Ended) → IsOpening old words w n t new → StaysInReach new ended
     → StaysInReach old ended
 reach_opened old new words w n t ended o reach c at e = opened_was o.written c (reach (run_after_opening o.written c) (o.leads c at) e)
@@ -44,7 +44,7 @@ reach_opened old new words w n t ended o reach c at e = opened_was o.written c (
 pub never_begun : HangUp ≡ too_far_ahead → ⊥
 never_begun e = cc
 
--- from no notes
+-- the opening messages are noted from no notes on
 pub opened_as : (old new : Term) (words : List ℕ) (w : KnownWriting) (n t : Noted) → n ≡ no_notes → IsOpening old words w n t new
     → IsOpening old words w no_notes t new
 opened_as old new words w n t e o = subst (λ (m : Noted). IsOpening old words w m t new) e o

@@ -53,7 +53,7 @@ ending_stays Left left e = absurd e
 ending_stays (Resized s) left e = absurd e
 ending_stays (Asked control) left e = absurd e
 
--- what a sender's view says
+-- the facts of a sender's view
 pub record Sent (s : Sender) (v : View) : Type 0 where
   pub mails : List Mail
   pub is : v ≡ sender s mails

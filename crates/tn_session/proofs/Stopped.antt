@@ -1,4 +1,4 @@
--- The word to stop: how it is told and taken, and after which messages.
+-- The word to stop: how it is sent and taken, and after which messages.
 use Rattle.std.proofs.Common.{◌≡◌, Bool, true, false, not, ◌||◌, ◌&&◌, List, [], ◌∷◌, ◌++◌, Option, Some, None, IfSome, refl, sym, ap, ◌∙◌, subst, map}
 use Rattle.std.proofs.Common.{append_assoc, arith}
 use Rattle.crossbeam_channel.specs.{Claims.IsSeatAt, Ends.{sends_on, receives_on}}
@@ -21,12 +21,12 @@ some_left x xs e = cc
 
 -- THE SEAT
 
--- one without a seat is never told
+-- a thread without a seat is never asked to stop
 pub unseated : (o : Option StopSeat) → StopsStay None o → has_stopped o ≡ false
 unseated None stays = refl
 unseated (Some seat) stays = absurd stays
 
--- the seat that comes back is still at the channel of the one that tells
+-- the seat that comes back is still at the channel of the thread that sends the word
 pub seat_at : (a b : Option StopSeat) (old new : StopTeller) → StopsStay a b → IfSome a (λ seat. AreNewStops old seat) → new.to ≡ old.to
     → IfSome b (λ seat. IsSeatAt (sends_on new.to) seat.pass)
 seat_at None None old new stays is to = tt
@@ -49,7 +49,7 @@ pub told_words : (told : Bool) (v : StopHand) → IsTold told v → (l : List St
 told_words true v is = (is.0 ∷ [], is.1)
 told_words false v is = ([], is)
 
--- whoever has taken the word was told it
+-- a thread that has taken the word was asked to stop
 pub told_first : (v w u : StopHand) (items : List Stop) → u ≡ joined_hands v w → LeftOver u items → took_some w.taken ≡ true → v ≡ putter [] → ⊥
 told_first v w u items e left took none = by w.taken refl took
   where
@@ -65,7 +65,7 @@ told_first v w u items e left took none = by w.taken refl took
 pub same_words : (v w u x y : StopHand) (l : List Stop) → v ≡ putter l → u ≡ joined_hands v w → x ≡ u → y ≡ record x { taken = None } → y ≡ v
 same_words v w u x y l ev eu ex ey = ey ∙ ap (λ (h : StopHand). record h { taken = None }) (ex ∙ eu ∙ ap (λ (h : StopHand). joined_hands h w) ev) ∙ sym ev
 
--- whoever stopped was told
+-- a thread that stopped was asked to
 pub stopped_told : (told stopped : Bool) (v : StopHand) → IsTold told v → (stopped ≡ true → v ≡ putter [] → ⊥) → stopped ≡ true → told ≡ true
 stopped_told true stopped v is never on = refl
 stopped_told false stopped v is never on = absurd (never on is)
@@ -140,13 +140,13 @@ left_mail who x e =
     let message = left_is x.message b.1 in
     λ i. record { from = from i; message = message i }
 
--- as long as it has not left, it is told where that is due
+-- as long as it has not left, it is asked to stop if that is due
 here_now : (told due now mid next gone : Bool) → gone ≡ false → told ≡ mid → (mid ≡ true → next ≡ true) → due ≡ (next && not gone) → now ≡ (told || due)
     → now ≡ next
 here_now true due now mid next gone g e more d n = n ∙ sym (more (sym e))
 here_now false due now mid next gone g e more d n = n ∙ d ∙ ap (λ (b : Bool). next && not b) g ∙ and_true next
 
--- and then no more
+-- once it has left, it is not asked to stop any more
 kept_now : (told due now next gone : Bool) → gone ≡ true → due ≡ (next && not gone) → now ≡ (told || due) → now ≡ told
 kept_now told due now next gone g d n = n ∙ ap (λ (b : Bool). told || b) (d ∙ ap (λ (b : Bool). next && not b) g ∙ and_none next) ∙ or_false told
 
@@ -237,7 +237,7 @@ none_of who (x ∷ xs) e =
         omega (arith, l, z, ih)
     by false is f ih = lefts_else who x xs is ∙ ih
 
--- whoever's one Left was handled has left
+-- a thread whose one Left was handled has left
 pub was_left : (who : Sender) (handled mails : List Mail) → from who handled ≡ mails → lefts_of mails ≡ 1 → has_left who handled ≡ true
 was_left who handled mails is one = by (has_left who handled) refl
   where

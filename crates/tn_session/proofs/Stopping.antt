@@ -1,4 +1,4 @@
--- Where a thread is to stop, it is to stop from there on.
+-- If a thread is to stop, it is to stop from then on.
 use Rattle.std.proofs.Common.{◌≡◌, ℕ, Bool, true, false, ◌||◌, Option, Some, None, List, [], ◌∷◌, refl, sym, ap, ◌∙◌}
 use Rattle.tn_cores.specs.client.Counting as core_counting
 use Rattle.tn_cores.specs.client.Marks as core_marks

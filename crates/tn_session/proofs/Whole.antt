@@ -112,7 +112,7 @@ back_sent began acts jobs stopped v s =
     (sym (append_assoc said (Refused ∷ []) (Left ∷ []))) (subst P e s.2))
     (is_close began acts stopped s.0 s.1 s.6 s.8)
 
--- what was written, with the opening words
+-- the bytes that were written, with the opening messages
 wrote_all : (b : Bool) (words front back bytes rest sends : List ℕ) (x y z : Option (List ℕ)) (whole : Bool) → words ≡ front ++ back → (b ≡ true → back ≡ [])
     → Appends x y front → Appends y z bytes → (b ≡ false → bytes ≡ []) → sends ≡ words ++ (bytes ++ rest) → (whole ≡ true → rest ≡ []) → (unwritten : List ℕ)
     × Appends x z (front ++ bytes) × (sends ≡ (front ++ bytes) ++ unwritten) × ((b && whole) ≡ true → unwritten ≡ [])

@@ -27,7 +27,7 @@ use Rattle.tn_session.specs.workers.Reading.{max_reads, pieces_in, controls_in}
 use Rattle.tn_session.specs.declared.workers.{channels.View.View, mail.Sender.TheVariants.{Net, Keys}}
 use Rattle.tn_cores.specs.declared.faults.SessionFault.TheVariants as fault
 
--- the view of the one that handles, in a session of two senders; nobody sends as Desk or Back
+-- the view of the one that handles, in a session of two senders; no thread sends as Desk or Back
 abbrev pub core_view : List Mail → View
 core_view h = record { handled = Some h; net = None; desk = Some []; back = Some []; keys = None }
 
@@ -44,8 +44,8 @@ pub record IsReadyForTwo (m : Mailbox) : Type 0 where
   pub net_is : view m.net.pass ≡ sender Net []
   pub keys_is : view m.keys.pass ≡ sender Keys []
 
--- The core has handled nothing and told nobody to stop, and two threads promise this: they send to its
--- mailbox as Net and as Keys, and only Keys may be told to stop.
+-- The core has handled nothing and told no thread to stop, and two threads promise this: they send to its
+-- mailbox as Net and as Keys, and only Keys may be asked to stop.
 pub record StandsBeside {N K : Type 0} (ends : CoreEnds) (pass : Pass Mail View) (teller : StopTeller)
     (net : ReaderSays N) (keys : ReaderSays K) : Type 0 where
   pub one_mailbox : receives_on ends.from ≡ sends_on ends.to
@@ -70,32 +70,36 @@ AreTwoSettled pass net keys net' keys' core' =
     → (net' ≡ sender Net a) × (keys' ≡ sender Keys d) × (core' ≡ core_view h)
     × ((items : List Mail) × Interleaves (h ++ items) (four a [] [] d))
 
+-- the report of a client's session with this progress
 abbrev pub client_report : ClientProgress → Report
 client_report p = record { ended = p.ended; pieces = p.pieces; entries = 0; stops = 0 }
 
--- what a mail brings from the network, and a message with its mark, and what the client says on it by now
+-- the bytes that a message brings from the network, a message with its mark, and what the client has sent
+-- after it
 abbrev pub brought_by : Mail → List ℕ
 brought_by x = brought_from origin.Net (origin_of x.from) x.message
 
+-- the bytes that a message brings from the network
 abbrev pub brings : Told × ClientMark → List ℕ
 brings m = brought_from origin.Net m.0.from m.0.message
 
+-- all that the client sent on the network so far
 abbrev pub says : Run → List ℕ
 says c = turns.says c
 
--- Of what Keys and Net sent, in the order that these passes know, and of what the core handled,
--- wrote and showed.
+-- The record of a client's session: what Keys and Net sent, in the order that these passes know, and what the
+-- core handled, wrote and showed.
 pub record RunningClient (window : Window) (keys : KnownTyping) (net : KnownReader)
     (writer screen : KnownWriting)
     (result : ClientResult) : Type 0 where
-  -- what each sent, and what was handled
+  -- the messages that each sent, and those that were handled
   pub from_keys : List Mail
   pub from_net : List Mail
   pub handled : List Mail
   pub keys_is : result.keys ≡ sender Keys from_keys
   pub net_is : result.net ≡ sender Net from_net
   pub core_is : result.core.handled ≡ Some handled
-  -- what was handled is an interleaving of all that was sent
+  -- the messages that were handled are an interleaving of all that were sent
   pub woven : Interleaves handled (four from_net [] [] from_keys)
   -- the pieces are prefixes of what the readers gave
   pub stopped : Bool
@@ -106,15 +110,15 @@ pub record RunningClient (window : Window) (keys : KnownTyping) (net : KnownRead
   pub messages : map (λ m. m.0) marked ≡ all_told handled
   pub run : Run
   pub runs : Runs (start window.width window.height window.limit) marked run
-  -- where the keys' thread left, it was told to stop if by then nothing had any effect any more, or nothing
-  -- more came from the network, and else not; and only then it left after a piece
+  -- when the keys' thread left, it had been asked to stop if by then nothing had any effect any more, or
+  -- nothing more came from the network, and else not; only if asked it left after a piece
   pub keys_left : LeavesAt Keys all_told (Runs (start window.width window.height window.limit)) handled marked
   pub told : IsTold (core_stops keys_left.by_then.progress) result.told
   pub stopped_for : IsTrue stopped → IsTrue (core_stops keys_left.by_then.progress)
-  -- what was typed, keys and commands, and the bytes from the network whose items came, are the first of what
-  -- these messages bring
+  -- the keys and commands that were typed, and the bytes from the network whose items came, are the first of
+  -- those that these messages bring
   pub in_order : TakesInOrder (all_told handled) run
-  -- what was written of what it says up to the Left of Keys
+  -- the bytes written, of those that the core sent up to the Left of Keys
   pub written : List ℕ
   pub unwritten : List ℕ
   pub appended : Appends writer.before.bytes writer.after.bytes written
@@ -135,17 +139,17 @@ pub record RunningClient (window : Window) (keys : KnownTyping) (net : KnownRead
   pub as_noted : transcript ≡ map (exchange_of brought_by) steps
   pub transcribed : Transcribes Turns brings says (start window.width window.height window.limit) marked run
       written transcript
-  -- and the keys that it read from the user
+  -- the keys that the session read from the user
   pub keys_read : List ℕ
   pub keys_were_read : ReadsPrefix keys.reader.bytes keys_read
   pub keys_are : keys_read ≡ brought origin.Keys (all_told handled)
-  -- with what is asked for between them: what stands among the pieces, the first of what the reader tells
+  -- with the requests between them: what stands among the pieces, the first of what the reader reports
   pub inputs : List Input
   pub inputs_are : inputs ≡ inputs_brought (all_told handled)
   pub keys_among : keys_in inputs ≡ keys_read
   pub asked_among : all_asked inputs ≡ map input_of (controls_in typed.0)
   pub were_asked : TellsFirst keys.controls (controls_in typed.0)
-  -- and what was shown of what it shows
+  -- the bytes that were shown, of those that it shows
   pub shown : List ℕ
   pub unshown : List ℕ
   pub displayed : Appends screen.before.bytes screen.after.bytes shown
@@ -154,14 +158,14 @@ pub record RunningClient (window : Window) (keys : KnownTyping) (net : KnownRead
   pub all_shown : IsTrue (all_whole marked) → unshown ≡ []
   -- the report
   pub report_is : result.report ≡ client_report run.progress
-  -- a fault is told only where its cause was there
+  -- a fault is reported only if its cause was there
   pub caused : (f : SessionFault) → result.report.ended ≡ Fault f
       → IsEndedAt (start window.width window.height window.limit) marked (Fault f)
-  -- that reading failed, only where a read fails, or after as many as are made
+  -- the fault of reading only if a read failed, or after as many as are made
   pub read_failed : result.report.ended ≡ Fault fault.Read
       → WillFail max_reads (length (pieces_in typed.0)) keys.reader.failures
       ⊎ WillFail max_reads (length (pieces_in read.0)) net.failures
-  -- and that a write failed, only where one did, to the network or to the screen
+  -- the fault of writing is reported only if a write failed, to the network or to the screen
   pub write_failed : result.report.ended ≡ Fault fault.Write
       → SomeFailed max_writes writer.before.calls writer.after.calls
       ⊎ SomeFailed max_writes screen.before.calls screen.after.calls

@@ -19,24 +19,28 @@ abbrev pub origin_of : Sender → Origin
 origin_of Keys = origin.Keys
 origin_of _ = origin.Net
 
+-- a message of the mailbox, as the core gets it
 abbrev pub told_of : Mail → Told
 told_of mail = record { from = origin_of mail.from; message = mail.message }
 
+-- messages of the mailbox, as the core gets them
 abbrev pub all_told : List Mail → List Told
 all_told mails = map told_of mails
 
--- what is said on the network by now
+-- all that was sent on the network so far
 abbrev pub says : Run → List ℕ
 says c = spells (items_said c.sent)
 
+-- nothing has any effect any more
 abbrev pub is_over : Run → Bool
 is_over c = c.progress.over
 
+-- the write to the network did not fail
 abbrev pub is_marked_written : Told × ClientMark → Bool
 is_marked_written m = is_written m.1
 
--- one message with its mark: what was written and shown of what it sends and shows, what was noted,
--- and what the writer and the screen told
+-- one message with its mark: what was written and shown of what it sends and shows, what was noted, and what
+-- the writer and the screen report
 pub record TurnsTold (old : Core) (told : Told) (writer screen : KnownWriting) (before after : Noted)
     (new : Core)
     : Type 0 where
@@ -73,8 +77,8 @@ pub record ToldAll (old : Core) (messages : List Told) (writer screen : KnownWri
   pub over : IsFalse (all_whole marked) → IsTrue new.progress.over
   pub stays : IsTrue old.progress.over → IsTrue new.progress.over
 
--- what the core did: of the views before and after, of the writer to the network and of the screen, of what
--- it noted from its beginning, and of the word to stop
+-- the actions of the core: the views before and after, the writer to the network and the screen, its notes
+-- from its beginning, and the word to stop
 pub record CoreHandles (old : Core) (v w : View) (writer screen : KnownWriting) (after : Noted)
     (stop : StopHand)
     (new : Core) : Type 0 where

@@ -1,4 +1,4 @@
--- What is known of a session's jobs, its settings and what it gives back, each in one record.
+-- The known facts of a session's jobs, its settings and its results, each in one record.
 use Rattle.std.specs.Prelude.{ℕ, Bool, Option, List}
 use Rattle.crossbeam_channel.specs.Claims.{view}
 use Rattle.tn_discipline.specs.{Canon.Canon, declared.reads.Entry.Entry}
@@ -9,12 +9,13 @@ use Rattle.tn_session.specs.{declared.workers.channels.View.View, workers.EntryC
 use Rattle.tn_session.specs.{workers.Stops.StopHand, Notes.{Noted, noted_of}, declared.parties.Ports.Ports}
 use Rattle.tn_session.specs.declared.parties.{ClientPorts.ClientPorts, Report.Report}
 
--- of a type of jobs: how they act, and with which a session may begin, the first and then the others, in
--- order
+-- The facts of a type of jobs: how they act, and with which a session may begin, the first and then the
+-- others, in order.
 pub record JobFacts (J : Type 0) : Type 1 where
   pub begins : List J → Type 0
   pub acts : JobActs J
 
+-- the facts of jobs, by these relations
 abbrev pub job_facts : {J : Type 0} → (List J → Type 0) → (J → Entry → Reaction → J → Type 0)
     → (J → Reaction → J → Type 0) → (J → Option Entry → Type 0) → JobFacts J
 job_facts begins reacts steps refuses = record { begins = begins; acts = job_acts reacts steps refuses }
@@ -32,8 +33,8 @@ pub record TermSettings : Type 0 where
   pub canon : Canon
   pub editing : Editing
 
--- of the passes of a session: what each thread sent, what the terminal handled and put, what was taken, and
--- whether the thread of the background jobs was told to stop
+-- the passes of a session: what each thread sent, what the terminal handled and put, what was taken, and
+-- whether the thread of the background jobs was asked to stop
 pub record SessionViews : Type 0 where
   pub net : View
   pub desk : View
@@ -43,6 +44,7 @@ pub record SessionViews : Type 0 where
   pub took : EntryHand
   pub told : StopHand
 
+-- the views of a session's passes
 abbrev pub views_of : Ports → SessionViews
 views_of ports =
     record {
@@ -61,6 +63,7 @@ pub record SessionResult : Type 0 where
   pub views : SessionViews
   pub noted : Noted
 
+-- the result of a session, by its report and its passes
 abbrev pub session_result : Report → Ports → SessionResult
 session_result report ports = record {
   report = report;
@@ -75,7 +78,7 @@ pub record Window : Type 0 where
   pub limit : ℕ
 
 -- the report of a client's session, what its threads sent and its core handled, whether the thread that reads
--- the keys was told to stop, and what the core did, in order
+-- the keys was asked to stop, and the core's actions, in order
 pub record ClientResult : Type 0 where
   pub report : Report
   pub keys : View
@@ -84,6 +87,7 @@ pub record ClientResult : Type 0 where
   pub told : StopHand
   pub noted : Noted
 
+-- the result of a client's session, by its report and its passes
 abbrev pub client_result : Report → ClientPorts → ClientResult
 client_result report ports =
     record {

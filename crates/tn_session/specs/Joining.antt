@@ -8,12 +8,12 @@ use Rattle.tn_session.specs.declared.workers.mail.{Mail.Mail, Sender.TheVariants
 use Rattle.tn_cores.specs.queue.Queue.{putter, taker}
 use Rattle.tn_nvt.specs.Prefixes.{IsPrefixOf}
 
--- the view of the one that handles, in a session of three senders; nobody sends as Keys
+-- the view of the one that handles, in a session of three senders; no thread sends as Keys
 abbrev pub handler : List Mail → View
 handler h = record { handled = Some h; net = None; desk = None; back = None; keys = Some [] }
 
--- nothing was sent, handled, put or taken; the mailbox holds 64 messages, and the channel of entries two;
--- 32 steps may be said and not yet handled; each pass has its seat
+-- nothing was sent, handled, put or taken; the mailbox holds 64 messages, and the channel of entries two; 32
+-- steps may be sent and not yet handled; each pass has its seat
 pub record IsReady (c : Channels) : Type 0 where
   pub one_mailbox : receives_on c.ends.from ≡ sends_on c.ends.to
   pub mails : ruled_capacity (sends_on c.ends.to) ≡ 64
@@ -39,8 +39,8 @@ pub record IsReady (c : Channels) : Type 0 where
   pub credits : IsSeatAt (sends_on c.ends.give) c.credits.pass
   pub step_credits : AreNewCredits c.passes.step_credits c.step_credits
 
--- whatever the lists are: they are those of the new passes too, what was handled begins an interleaving of
--- what was sent, and what was taken begins what was put; the word to stop stays as it was
+-- for any lists: they are those of the new passes too, what was handled begins an interleaving of what was
+-- sent, and what was taken begins what was put; the word to stop stays as it was
 abbrev pub AreSettled : SessionViews → SessionViews → Type 0
 AreSettled old new =
     (h a b c : List Mail) (p t : List (Option Entry)) → old.term ≡ handler h → old.net ≡ sender Net a

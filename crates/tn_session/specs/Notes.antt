@@ -1,11 +1,11 @@
--- What the core of a session did, in the order in which it did it: which mail it took, and which bytes it
--- wrote to the network before it took the next.
+-- The actions of a session's core, in their order: which message it took, and which bytes it wrote to the
+-- network before it took the next.
 use Rattle.std.specs.Prelude.{◌≡◌, ℕ, Bool, IsTrue, Option, Some, None, List, [], ◌∷◌, ◌++◌, map}
 use Rattle.std.specs.Io.KnownBytes.{Appends}
 use Rattle.tn_session.specs.declared.workers.mail.Mail.{Mail}
 use Rattle.tn_session.specs.declared.transcript.Transcript.{Transcript, Begun, Took', Wrote'}
 
--- the mail that was taken, none before the first, and what was written from there on
+-- the message that was taken, none before the first, and the bytes that were written after it
 pub record Note : Type 0 where
   pub took : Option Mail
   pub wrote : List ℕ
@@ -15,13 +15,15 @@ pub record Noted : Type 0 where
   pub done : List Note
   pub last : Note
 
+-- the notes of a core that has done nothing
 abbrev pub no_notes : Noted
 no_notes = record { done = []; last = record { took = None; wrote = [] } }
 
+-- all notes, the last one included
 abbrev pub notes : Noted → List Note
 notes n = n.done ++ n.last ∷ []
 
--- a mail was taken
+-- a message was taken
 abbrev pub takes : Noted → Mail → Noted
 takes n mail = record { done = notes n; last = record { took = Some mail; wrote = [] } }
 
@@ -29,7 +31,7 @@ takes n mail = record { done = notes n; last = record { took = Some mail; wrote 
 abbrev pub writes : Noted → List ℕ → Noted
 writes n bytes = record { done = n.done; last = record { took = n.last.took; wrote = n.last.wrote ++ bytes } }
 
--- the front of these bytes was written and noted, all of them where it went well
+-- the front of these bytes was written and noted, all of them if the write went well
 pub record NotesWrite (well : Bool) (old new : Option (List ℕ)) (bytes : List ℕ)
     (before after : Noted) : Type 0 where
   pub front : List ℕ
@@ -39,14 +41,14 @@ pub record NotesWrite (well : Bool) (old new : Option (List ℕ)) (bytes : List 
   pub wrote : Appends old new front
   pub noted : after ≡ writes before front
 
--- of these mails, in order, it took each, and wrote these bytes after it
+-- the core took each of these messages, in order, and wrote these bytes after it
 pub record NotesAll (handled : List Mail) (written : List (List ℕ)) (before after : Noted) : Type 0 where
   pub more : List Note
   pub noted : notes after ≡ notes before ++ more
   pub took : map (λ n. n.took) more ≡ map (λ x. Some x) handled
   pub wrote : map (λ n. n.wrote) more ≡ written
 
--- what a transcript says
+-- the notes of a transcript
 abbrev pub noted_of : Transcript → Noted
 noted_of (Begun seal) = no_notes
 noted_of (Took' seal marker before mail) = takes (noted_of before) mail.value

@@ -27,6 +27,7 @@ use Rattle.tn_session.specs.Turns as turns
 use Rattle.tn_cores.specs.declared.faults.SessionFault.TheVariants as fault
 use Rattle.tn_linemode.specs.Prefixes.{IsRead}
 
+-- the report of a session with this progress
 abbrev pub report_of : ServerProgress → Report
 report_of p = record { ended = p.ended; pieces = p.pieces; entries = p.entries; stops = p.stops }
 
@@ -46,7 +47,7 @@ IsRefusal (fault.Client f) = ⊥
 abbrev pub IsOfThreads : SessionFault → Type 0
 IsOfThreads f = (f ≡ fault.Start) ⊎ (f ≡ fault.Channel)
 
--- the opening words were written, or the first of them, and noted
+-- the opening messages were written, or the first bytes of them, and noted
 pub record IsOpening (old : Term) (words : List ℕ) (writer : KnownWriting) (before after : Noted) (new : Term)
     : Type 0 where
   pub written : Bool
@@ -55,11 +56,11 @@ pub record IsOpening (old : Term) (words : List ℕ) (writer : KnownWriting) (be
   pub leads : (c : Run) → LeadsTo c old → LeadsTo (run_after_opening written c) new
   pub over : IsFalse written → IsTrue new.progress.over
 
--- One, two, three, four and six of what is said of a session: of what the three threads sent, in the order
--- that these passes know, of what the terminal handled, put and wrote, and of what the foreground job took.
+-- Points one, two, three, four and six of a session: what the three threads sent, in the order that these
+-- passes know, what the terminal handled, put and wrote, and what the foreground job took.
 pub record Schedule {J : Type 0} (acts : JobActs J) (jobs : SessionJobs J) (settings : TermSettings)
     (table : Jobs) (reader : KnownReader) (writer : KnownWriting) (result : SessionResult) : Type 0 where
-  -- what each sent, and what was handled
+  -- the messages that each sent, and those that were handled
   pub from_net : List Mail
   pub from_desk : List Mail
   pub from_back : List Mail
@@ -86,15 +87,15 @@ pub record Schedule {J : Type 0} (acts : JobActs J) (jobs : SessionJobs J) (sett
   pub all_written : IsTrue (wrote_opening && all_whole marked) → unwritten ≡ []
   pub tells : Tells (wrote_opening && no_writes_failed marked) writer.before.calls writer.after.calls
   pub put_is : result.views.put ≡ putter run.puts
-  -- four: what was taken begins what was put, and what the jobs said is theirs, from where they began
+  -- four: what was taken begins what was put, and what the jobs sent is theirs, from where they began
   pub taken : List (Option Entry)
   pub took_is : result.views.took ≡ taker taken
   pub took_first : IsPrefixOf taken run.puts
   pub talked : IsTalk jobs.first (IsJob jobs.job) acts result.views.desk result.views.took
   pub stopped : Bool
   pub stepped : AreSteps (Holds jobs.queue) acts (queue_of jobs.tostop jobs.queue) stopped result.views.back
-  -- where Back left, it was told to stop if by then nothing had any effect any more, or nothing more came
-  -- from the network, and else not; and only then it stopped
+  -- when Back left, it had been asked to stop if by then nothing had any effect any more, or nothing more
+  -- came from the network, and else not; only if asked it stopped
   pub back_left : LeavesAt Back messages_of
       (Runs (run_after_opening wrote_opening (start settings.canon settings.editing table))) handled marked
   pub told : IsTold (term_stops back_left.by_then.progress) result.views.told
@@ -102,20 +103,22 @@ pub record Schedule {J : Type 0} (acts : JobActs J) (jobs : SessionJobs J) (sett
   -- six: the report
   pub report_is : result.report ≡ report_of run.progress
 
--- A step of its transcript writes the opening words, or handles a message; what that brings from the network,
--- and what the server says on it by now.
+-- A step of its transcript writes the opening messages, or handles a message; the bytes that it brings from
+-- the network, and what the server has sent after it.
 abbrev pub OpensOrTurns : Run → Option (Message × ServerMark) → Run → Type 0
 OpensOrTurns c None new = new ≡ c
 OpensOrTurns c (Some m) new = Turns c m new
 
+-- the bytes that a step brings from the network
 abbrev pub brings : Option (Message × ServerMark) → List ℕ
 brings None = []
 brings (Some m) = bytes_in m.0
 
+-- all that the server sent on the network so far
 abbrev pub says : Run → List ℕ
 says c = turns.says c
 
--- what a mail brings
+-- the bytes that a message brings
 abbrev pub brought_by : Mail → List ℕ
 brought_by x = bytes_in x.message
 
@@ -151,7 +154,7 @@ pub record IsBegun {J : Type 0} (fresh : J → Type 0) (settings : TermSettings)
   pub words : b.output.out.items ≡ spells (items_said (opening settings.canon settings.editing))
   pub noted : noted_of b.output.transcript ≡ no_notes
 
--- from after the opening words on, whatever these were
+-- from after the opening messages on, whatever these were
 abbrev pub RunsOn : {J : Type 0} → JobActs J → SessionJobs J → KnownReader → KnownWriting → Noted → Term
     → SessionResult → Type 0
 RunsOn acts jobs reader writer noted term result =
@@ -159,7 +162,7 @@ RunsOn acts jobs reader writer noted term result =
     → IsOpening began words (record { before = first; after = writer.before }) no_notes noted term
     → IsRun acts jobs began words reader (record { before = first; after = writer.after }) result
 
--- The stream of the run is the first of the bytes that the reader gave, and all of them where a hang-up ended
+-- The stream of the run is the first of the bytes that the reader gave, and all of them if a hang-up ended
 -- the session; its items are read by the definitions of the stream.
 pub record HearsReader (given : Option (List ℕ)) (ended : Ended) (c : Run) : Type 0 where
   pub left : Option (List ℕ)
@@ -167,15 +170,16 @@ pub record HearsReader (given : Option (List ℕ)) (ended : Ended) (c : Run) : T
   pub all : ended ≡ HangUp → IsAtEnd left
   pub read : IsRead c.stream (items c.history)
 
--- where the reader's bytes are known: what was taken begins the entries that they give, whatever the
--- schedule, and is all of them where a hang-up ended the session
+-- if the reader's bytes are known: what was taken begins the entries that they give, for every schedule, and
+-- is all of them if a hang-up ended the session
 abbrev pub TakesEntries : TermSettings → Option (List ℕ) → Ended → List (Option Entry) → Type 0
 TakesEntries settings given ended taken =
     (bytes : List ℕ) (xs : List Item) → given ≡ Some bytes → IsRead bytes xs
     → IsPrefixOf (entries_put taken) (entries_by settings.canon settings.editing xs)
     × (ended ≡ HangUp → entries_put taken ≡ entries_by settings.canon settings.editing xs)
 
--- The whole of it, for the jobs that were made. `to_make` is how many jobs the maker tells are to come.
+-- All points together, for the jobs that were made. `to_make` is the number of jobs that the maker reports to
+-- come.
 pub record RunningSession {J : Type 0} (facts : JobFacts J) (to_make : Option ℕ) (settings : TermSettings)
     (reader : KnownReader) (writer : KnownWriting) (result : SessionResult) : Type 0 where
   pub jobs : Jobs
@@ -191,10 +195,10 @@ pub record RunningSession {J : Type 0} (facts : JobFacts J) (to_make : Option �
   pub by_flag : tostop ≡ settings.canon.settings.flags.tostop
   pub schedule : Schedule facts.acts (record { first = first; job = job; queue = queue; tostop = tostop })
       settings jobs reader writer result
-  -- two: what the run heard of the reader
+  -- two: the part of the reader's bytes that the run read
   pub heard : HearsReader reader.bytes result.report.ended schedule.run
-  -- five: what the foreground job took is a prefix of the run's entries, and all of them where a hang-up
-  -- ended the session; and so of those that the reader's bytes give
+  -- five: what the foreground job took is a prefix of the run's entries, and all of them if a hang-up ended
+  -- the session; and so of those that the reader's bytes give
   pub in_order : GivesPrefix schedule.taken schedule.run.history
   pub all_taken : result.report.ended ≡ HangUp → entries_put schedule.taken ≡ entries schedule.run.history
   pub by_bytes : TakesEntries settings reader.bytes result.report.ended schedule.taken
@@ -206,19 +210,19 @@ pub record RunningSession {J : Type 0} (facts : JobFacts J) (to_make : Option �
   pub was_read : ReadsPrefix reader.bytes (all_read transcript)
   pub came : all_read transcript ≡ came_by result.views.net.net
   pub was_written : all_wrote transcript ≡ schedule.written
-  -- a step for the opening words, and one for each message, as the terminal noted it when it did it; it was
-  -- heard whole where a hang-up ended the session
+  -- a step for the opening messages, and one for each message, as the terminal noted it when it acted; all
+  -- was read if a hang-up ended the session
   pub noted : IsNoted (run_after_opening schedule.wrote_opening (start settings.canon settings.editing jobs))
       schedule.marked schedule.run schedule.written schedule.handled result.noted transcript
   pub heard_whole : result.report.ended ≡ HangUp → schedule.run.stream ≡ all_read transcript
-  -- six: a fault is told only where its cause was there
+  -- six: a fault is reported only if its cause was there
   pub caused : (f : SessionFault) → result.report.ended ≡ Fault f
       → IsFaultCause schedule.wrote_opening
       (run_after_opening schedule.wrote_opening (start settings.canon settings.editing jobs))
       schedule.marked f
-  -- that reading failed, only where a read fails, or after as many as are made
+  -- the fault of reading only if a read failed, or after as many as are made
   pub read_failed : result.report.ended ≡ Fault fault.Read
       → WillFail max_reads (length (pieces_in schedule.read.0)) reader.failures
-  -- and that a write failed, only where one did
+  -- the fault of writing is reported only if a write failed
   pub write_failed : result.report.ended ≡ Fault fault.Write
       → SomeFailed max_writes writer.before.calls writer.after.calls

@@ -1,5 +1,5 @@
--- Why a thread stops that has more to do: it was told. It is told after the first message by which nothing
--- has any effect any more, or nothing more comes from the network, unless it has left by then.
+-- The reason why a thread stops that has more to do: it was asked to. It is asked after the first message by
+-- which nothing has any effect any more, or nothing more comes from the network, unless it has left by then.
 use Rattle.std.specs.Prelude.{◌≡◌, Bool, true, IsTrue, false, IsFalse, ◌||◌, ◌&&◌, List, [], ◌∷◌, ◌++◌, map}
 use Rattle.crossbeam_channel.specs.{Claims.{view, IsSeatAt}, Ends.{sends_on, receives_on}}
 use Rattle.tn_cores.specs.declared.{client.progress.ClientProgress.ClientProgress, messages.Message.Message}
@@ -9,7 +9,7 @@ use Rattle.tn_session.specs.{workers.{Mailbox.{same, mail}, Stops.StopHand}, dec
 use Rattle.tn_session.specs.declared.workers.{mail.Sender.Sender, stops.{Stop.Stop, StopSeat.StopSeat}}
 use Rattle.tn_session.specs.declared.stops.StopTeller.{StopTeller}
 
--- nobody was told
+-- no thread was asked to stop
 pub record AreNewStops (teller : StopTeller) (seat : StopSeat) : Type 0 where
   pub one_channel : receives_on seat.from ≡ sends_on teller.to
   pub teller_at : IsSeatAt (sends_on teller.to) teller.pass
@@ -17,19 +17,21 @@ pub record AreNewStops (teller : StopTeller) (seat : StopSeat) : Type 0 where
   pub teller_is : view teller.pass ≡ putter []
   pub seat_is : view seat.pass ≡ taker []
 
--- the word was put once, or not at all
+-- the word to stop was put once, or not at all
 abbrev pub IsTold : Bool → StopHand → Type 0
 IsTold true v = (word : Stop) × (v ≡ putter (word ∷ []))
 IsTold false v = v ≡ putter []
 
+-- the message says that a thread has left
 abbrev pub is_left : Message → Bool
 is_left Left = true
 is_left _ = false
 
--- this thread tells that it has left
+-- this message says that the thread has left
 abbrev pub leaves : Sender → Mail → Bool
 leaves who x = same x.from who && is_left x.message
 
+-- some of these messages says that this thread has left
 abbrev pub has_left : Sender → List Mail → Bool
 has_left who [] = false
 has_left who (x ∷ xs) = leaves who x || has_left who xs
@@ -38,10 +40,11 @@ has_left who (x ∷ xs) = leaves who x || has_left who xs
 abbrev pub core_stops : ClientProgress → Bool
 core_stops p = p.over || p.at_end
 
+-- the background jobs are to stop: nothing has any effect any more, or nothing more comes
 abbrev pub term_stops : ServerProgress → Bool
 term_stops p = p.over || p.at_end
 
--- Where this thread left: the messages that were handled before that, with their marks, lead so far.
+-- When this thread left: the messages that were handled before that, with their marks, lead so far.
 pub record LeavesAt {Said Mark Run : Type 0} (who : Sender) (said : List Mail → List Said)
     (runs : List (Said × Mark) → Run → Type 0) (handled : List Mail)
     (marked : List (Said × Mark)) : Type 0 where
@@ -56,7 +59,8 @@ pub record LeavesAt {Said Mark Run : Type 0} (who : Sender) (said : List Mail �
   pub by_then : Run
   pub leads : runs first by_then
 
--- As long as this thread has not left, it was told where the session stands so; and then, where it stood so.
+-- As long as this thread has not left, it is asked to stop if the session stands so; and then, when it stood
+-- so.
 pub record StandsTold {Said Mark Run : Type 0} (who : Sender) (said : List Mail → List Said)
     (runs : List (Said × Mark) → Run → Type 0) (stops : Run → Bool) (handled : List Mail)
     (marked : List (Said × Mark)) (now told : Bool) : Type 0 where

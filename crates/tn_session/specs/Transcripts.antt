@@ -1,4 +1,4 @@
--- What can be seen of a session on its connection: step by step, which bytes it read and which it wrote. Read
+-- The observations of a session on its connection: step by step, which bytes it read and which it wrote. Read
 -- `Exchange`, `all_read`, `all_wrote` and `came_by`; what follows ties them to a run.
 use Rattle.std.specs.Prelude.{◌≡◌, ◌⊎◌, ℕ, Bool, IsTrue, IsFalse, Option, Some, None, List, [], ◌∷◌, ◌++◌}
 use Rattle.std.specs.{Prelude.map, Io.KnownBytes.Consumes, List.FoldsTo}
@@ -17,15 +17,17 @@ abbrev pub all_read : List Exchange → List ℕ
 all_read [] = []
 all_read (x ∷ xs) = x.read ++ all_read xs
 
+-- all bytes that these steps wrote, in order
 abbrev pub all_wrote : List Exchange → List ℕ
 all_wrote [] = []
 all_wrote (x ∷ xs) = x.wrote ++ all_wrote xs
 
--- the bytes of the pieces among these mails, and of those that a pass knows
+-- the bytes of the pieces among these messages, and of those that a pass knows
 abbrev pub bytes_sent : List Mail → List ℕ
 bytes_sent [] = []
 bytes_sent (x ∷ xs) = bytes_in x.message ++ bytes_sent xs
 
+-- the bytes that these messages brought, if they are known
 abbrev pub came_by : Option (List Mail) → List ℕ
 came_by None = []
 came_by (Some mails) = bytes_sent mails
@@ -34,13 +36,13 @@ came_by (Some mails) = bytes_sent mails
 abbrev pub ReadsPrefix : Option (List ℕ) → List ℕ → Type 0
 ReadsPrefix given bytes = (left : Option (List ℕ)) × Consumes given left bytes
 
--- a run, and what was written by now
+-- a run, and the bytes written so far
 pub record Point (R : Type 0) : Type 0 where
   pub run : R
   pub wrote : List ℕ
 
--- One step of a run, of which a message brings these bytes, and which says these: what is written by now is
--- all that is said by now, or all that was ever written.
+-- One step of a run, in which a message brings these bytes, and these are sent: the bytes written so far are
+-- all that was sent so far, or all that was ever written.
 pub record IsExchange {R M : Type 0} (turns : R → M → R → Type 0) (brings : M → List ℕ) (says : R → List ℕ)
     (written : List ℕ) (old : Point R) (step : M × Exchange) (new : Point R) : Type 0 where
   pub turn : turns old.run step.0 new.run
@@ -49,8 +51,8 @@ pub record IsExchange {R M : Type 0} (turns : R → M → R → Type 0) (brings 
   pub said : IsPrefixOf new.wrote (says new.run)
   pub whole : (new.wrote ≡ says new.run) ⊎ (new.wrote ≡ written)
 
--- One step of a run, and what was written in it: the first of what it says more, all of that where the
--- message was done and written wholly, and none once nothing has any effect.
+-- One step of a run, and the bytes written in it: the first of what it sends more, all of that if the message
+-- was done and written wholly, and none once nothing has any effect.
 pub record IsStep {R M : Type 0} (turns : R → M → R → Type 0) (says : R → List ℕ) (is_over : R → Bool)
     (is_whole : M → Bool) (old : R) (step : M × List ℕ) (new : R) : Type 0 where
   pub turn : turns old step.0 new
@@ -66,7 +68,7 @@ abbrev pub total : {M : Type 0} → List (M × List ℕ) → List ℕ
 total [] = []
 total (s ∷ ss) = s.1 ++ total ss
 
--- what a mail brings, if one was taken
+-- the bytes that a message brings, if one was taken
 abbrev pub came_in : (Mail → List ℕ) → Option Mail → List ℕ
 came_in brings None = []
 came_in brings (Some mail) = brings mail

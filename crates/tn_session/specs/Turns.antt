@@ -14,13 +14,15 @@ use Rattle.tn_cores.specs.server.{Reaching.{LeadsTo, IsTurn}, Run.{Run, puts_of}
 use Rattle.tn_cores.specs.declared.{server.messages.{ServerMark.ServerMark, Put.Put}, faults.Ended.Ended}
 use Rattle.tn_cores.specs.declared.{messages.Message.{Message, TheVariants.Left}, server.terminal.Term.Term}
 
--- what is said on the network by now
+-- all that was sent on the network so far
 abbrev pub says : Run → List ℕ
 says c = spells (items_said c.history)
 
+-- nothing has any effect any more
 abbrev pub is_over : Run → Bool
 is_over c = c.progress.over
 
+-- the message was done wholly, and written
 abbrev pub is_marked_whole : Message × ServerMark → Bool
 is_marked_whole m = is_whole m.1
 
@@ -61,23 +63,26 @@ pub record GoesOn (old : Term) (messages : List Message) (writer : KnownWriting)
   pub stays : IsTrue old.progress.over → IsTrue new.progress.over
   pub idle : IsTrue old.progress.over → bytes ≡ []
 
+-- 1 for a Left
 abbrev pub left_one : Message → ℕ
 left_one Left = 1
 left_one _ = 0
 
+-- the number of Lefts among these messages
 abbrev pub lefts_of : List Mail → ℕ
 lefts_of [] = 0
 lefts_of (x ∷ xs) = left_one x.message + lefts_of xs
 
+-- these messages without their senders
 abbrev pub messages_of : List Mail → List Message
 messages_of mails = map (λ x. x.message) mails
 
--- it did not come to end so because too many entries waited
+-- the terminal did not come to end so because too many entries waited
 abbrev pub StaysInReach : Term → Ended → Type 0
 StaysInReach old ended =
     (c : Run) → LeadsTo c old → ended ≡ too_far_ahead → c.progress.ended ≡ too_far_ahead
 
--- what the terminal did: of the views, the writer and its notes before and after, and of the word to stop. It
+-- the actions of the terminal: the views, the writer and its notes before and after, and the word to stop. It
 -- takes ten, since each is seen before and after.
 pub record HandlesAll (old : Term) (v w : View) (before_hand after_hand : EntryHand) (writer : KnownWriting)
     (before after : Noted) (stop : StopHand) (new : Term) : Type 0 where

@@ -66,7 +66,7 @@ fn make_mailbox(alloc: Global) -> Result<Mailbox, AllocError>
     })
 }
 
-// What a session runs on.
+// The parts that a session runs on.
 #[derive(Drop)]
 struct Outfit<G> {
     mailbox: Mailbox,
@@ -96,7 +96,7 @@ fn equip<G: Gate + Drop>(alloc: Global, gate: Arc<G, Global>) -> Result<Outfit<G
     })
 }
 
-// Where a session reads from.
+// The readers of a session: of the network and of the keys.
 #[derive(Drop)]
 struct Readers<N, K> {
     net: N,
@@ -144,8 +144,8 @@ fn report(progress: ClientProgress) -> Report
     }
 }
 
-// What this thread goes on with as the core's: the threads that were started, its side of the mailbox, and
-// who watches it.
+// The parts with which this thread goes on as the core's: the threads that were started, its side
+// of the mailbox, and its gate.
 struct Beside<N: Source, K: Source, G> {
     started: ClientStarted<N, K>,
     ends: CoreEnds,
@@ -153,8 +153,8 @@ struct Beside<N: Source, K: Source, G> {
     watched: Watched<G>,
 }
 
-// Starts the threads that read. Where one can't be started no more goes to the network, and then the other
-// has been joined: it may wait for what the server says to that.
+// Starts the threads that read. If one cannot be started, no more goes to the network, and the
+// other has been joined: it may wait for what the server answers to that.
 fn start_readers<R, N, K, W, G>(
     rt: R,
     alloc: Global,
@@ -214,8 +214,8 @@ where
     })
 }
 
-// Runs this thread as the core's, beside those that were started. On each path out of it they have been
-// joined.
+// Runs this thread as the core's, next to those that were started. On each path out of it they have
+// been joined.
 fn run_beside<R, N, K, W, S, G>(
     rt: &R,
     alloc: Global,
@@ -274,9 +274,17 @@ where
     Ok((report(core.progress()), ports))
 }
 
-/// Runs a client's session over a connection: its reader and its writer, the user's keys and screen, and a
-/// window of this size whose lines have at most `limit` bytes. An `Err` is `Memory`, `Start` or `Channel`,
-/// and tells nothing of what was handled; all else ends in the report.
+/// Runs a client's session over a connection, and returns its report when it has ended. It takes
+/// the connection's reader and writer, the user's keys and screen, and a window of this size, in
+/// characters, whose lines have at most `limit` bytes. `gate` watches the threads.
+///
+/// # Errors
+///
+/// An error says nothing of what was handled before; all other faults end in the report.
+///
+/// - `Memory`: there is no memory for the session.
+/// - `Start`: a thread cannot be started.
+/// - `Channel`: the other end of a channel is gone.
 pub fn client_session<R, N, K, W, S, G>(
     rt: R,
     alloc: Global,

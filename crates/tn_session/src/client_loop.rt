@@ -1,4 +1,4 @@
-//! The core of a client's session: mails are handled until both senders have left.
+//! The core of a client's session, which handles messages until both senders have left.
 
 ghost use Rattle.std.specs.Prelude.{◌≡◌, ◌&&◌, ◌||◌, not, true, IsTrue, Some, [], IfSome};
 ghost use Rattle.crossbeam_channel.specs.{Claims.{view, IsSeatAt}, Ends.{receives_on, sends_on}};
@@ -19,7 +19,7 @@ use tn_cores::client::{ClientMark, ClientProgress, Core, Origin, Told};
 use tn_cores::streams::{Drain, Finish, write_all};
 use tn_cores::{Gate, Message};
 
-/// How many threads send mails.
+/// The number of threads that send messages.
 const SENDERS: u64 = 2;
 
 fn origin_of(from: Sender) -> Origin
@@ -41,7 +41,7 @@ fn told_of(mail: Mail) -> Told
     }
 }
 
-// Whether nothing more is to be done after both writes.
+// Returns whether nothing more is to be done after both writes.
 fn is_done(written: bool, shown: bool, mark: ClientMark) -> bool
     ensures { result ≡ ((written && shown) || not (is_whole mark)) }
 {
@@ -51,7 +51,8 @@ fn is_done(written: bool, shown: bool, mark: ClientMark) -> bool
     }
 }
 
-// Tells the gate what the core has agreed on, and that nothing has any effect any more.
+// Reports to the gate the terms on which the core has agreed, and whether nothing has any effect
+// any more.
 fn tell<G: Gate>(gate: &G, core: &Core) {
     gate.agreed(core.terms());
     if core.progress().over {
@@ -59,8 +60,9 @@ fn tell<G: Gate>(gate: &G, core: &Core) {
     }
 }
 
-// Handles one message: what it appends is written and shown, and where a write fails nothing has any
-// effect from there on. The gate hears of the terms first, so that it never knows less than the user sees.
+// Handles one message: the bytes that it appends are written and shown, and if a write fails
+// nothing has any effect from then on. The gate gets the terms first, so that it never has older
+// ones than the user sees.
 fn turn<W: Finish, S: Drain, G: Gate>(
     core: &mut Core,
     told: Told,
@@ -94,21 +96,22 @@ fn turn<W: Finish, S: Drain, G: Gate>(
     core.write_failed();
 }
 
-// Keys is to stop where no more comes from the network or nothing has any effect any more.
+// Returns whether Keys is to stop: no more comes from the network, or nothing has any effect any
+// more.
 fn stops(progress: ClientProgress) -> bool
     ensures { result ≡ core_stops progress }
 {
     progress.over || progress.at_end
 }
 
-// Nothing more goes to the network.
+// Returns whether nothing more goes to the network.
 fn closes(progress: ClientProgress) -> bool
     ensures { result ≡ (progress.over || progress.closed) }
 {
     progress.over || progress.closed
 }
 
-// Whether Keys has left, after this mail.
+// Returns whether Keys has left, after this message.
 fn has_left(before: bool, mail: &Mail) -> bool
     ensures { result ≡ (before || leaves_of Keys mail.now) }
 {
@@ -118,7 +121,7 @@ fn has_left(before: bool, mail: &Mail) -> bool
     }
 }
 
-// Whether Keys is to be told to stop: not once it has left.
+// Returns whether the word to stop is due to Keys: not once it has left.
 fn is_due(progress: ClientProgress, keys_left: bool) -> bool
     ensures { result ≡ (core_stops progress && not keys_left) }
 {
@@ -126,8 +129,9 @@ fn is_due(progress: ClientProgress, keys_left: bool) -> bool
 }
 
 // tools/progress: proctype Core
-/// Handles the mails until both senders have left. `None` where the other end of a channel is gone. It
-/// takes eight, since the core, the writer and the screen are lent each by itself.
+/// Handles the messages until both senders have left. It returns `None` if the other end of a
+/// channel is gone. It takes eight arguments, since the core, the writer and the screen are lent
+/// each by itself.
 pub(crate) fn run_core<R: Wait, W: Finish, S: Drain, G: Gate>(
     rt: &R,
     alloc: Global,

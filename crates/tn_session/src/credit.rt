@@ -1,7 +1,8 @@
-//! One piece at a time comes from the network: the terminal gives a credit once one more is welcome, and the
-//! thread that reads takes one before it sends a piece. Of what the background jobs say only so much waits
-//! for the terminal: their thread takes a credit for each step, and the terminal gives one back for each that
-//! it takes. So a key is passed by few messages, however fast these jobs are.
+//! Credits, which bound the messages that wait. One piece at a time comes from the network: the
+//! terminal gives a credit once one more piece is welcome, and the thread that reads takes one
+//! before it sends a piece. The text of background jobs that waits for the terminal is bounded too:
+//! their thread takes a credit for each step, and the terminal gives one back for each step that it
+//! takes. So few messages pass a key, however fast these jobs are.
 
 ghost use Rattle.std.specs.Prelude.{◌≡◌, ◌≤◌, ◌<◌, ◌+◌, true, IsTrue, false, IsFalse, length, IfOk};
 ghost use Rattle.crossbeam_channel.specs.{Claims.{view, IsSeatAt}, Ends.sends_on};
@@ -19,14 +20,14 @@ use std::sync::Wait;
 use tn_cores::Message;
 use tn_cores::server::Term;
 
-/// How many credits there are.
+/// The number of credits for pieces.
 pub(crate) const CREDITS: usize = 1;
 
-/// How many steps of background jobs may be said that the terminal has not taken: half of what the mailbox
-/// holds, so that it is never full.
+/// The number of steps of background jobs that may be sent and not yet taken by the terminal: half
+/// of what the mailbox holds, so that it is never full.
 const STEPS_AHEAD: u8 = 32;
 
-/// Where the terminal gives credits for steps.
+/// The end of the channel at which the terminal gives credits for steps.
 #[derive(Drop)]
 pub(crate) struct CreditGiver {
     pub(crate) to: CreditSender,
@@ -34,8 +35,8 @@ pub(crate) struct CreditGiver {
 }
 
 impl CreditGiver {
-    /// Gives one for this mail if a step of a background job said it. One that nobody waits for any more is
-    /// lost; the channel has room for each.
+    /// Gives one credit for this message if a step of a background job sent it. A credit for which
+    /// no thread waits any more is lost; the channel has room for each.
     pub(crate) fn give_for<R: Wait>(&mut self, rt: &R, mail: &Mail)
         requires seat { IsSeatAt (sends_on self.old.to) self.old.pass }
         ensures seat { IsSeatAt (sends_on self.new.to) self.new.pass }
@@ -93,8 +94,8 @@ pub(crate) fn is_piece(message: &Message) -> bool
     }
 }
 
-/// Gives the credit that is owed, if one is and a piece is welcome. Returns whether it is owed still. One
-/// that nobody waits for any more is lost.
+/// Gives the credit that is owed, if one is and a piece is welcome. It returns whether a credit is
+/// owed still. A credit for which no thread waits any more is lost.
 pub(crate) fn give_credit<R: Wait>(
     rt: &R,
     credits: &CreditSender,

@@ -1,4 +1,4 @@
-//! The jobs of a session are made, and a table holds them.
+//! Makes the jobs of a session, and the table that holds them.
 
 ghost use Rattle.std.specs.Prelude.{◌≡◌, ◌+◌, [], ◌∷◌, ◌++◌, length, IfOk, IfErr};
 ghost use Rattle.tn_session.specs.{Jobs.IsMade, Makers.{AreAll, GivesJobs, IsMakerFault}};
@@ -12,7 +12,7 @@ use tn_cores::SessionFault;
 use tn_jobs::laws::one_job_changes;
 use tn_jobs::{Job, JobId, Table};
 
-/// How many jobs run in the background at most.
+/// The most jobs that run in the background.
 const MAX_OTHERS: u8 = 15;
 
 /// The jobs of a session: the foreground job with its number, and those in the background.
@@ -24,7 +24,7 @@ pub(crate) struct Made<J> {
     pub(crate) queue: VecDeque<Runner<J>>,
 }
 
-// The first job stands in the foreground.
+// Puts the first job into the foreground.
 fn make_first<J: Job>(alloc: Global, job: J) -> Result<Made<J>, SessionFault>
     requires { J.fresh job }
     ensures made { IfOk result (λ made. IsMade J.fresh made) }
@@ -48,7 +48,7 @@ fn make_first<J: Job>(alloc: Global, job: J) -> Result<Made<J>, SessionFault>
     })
 }
 
-// One more job stands in the background.
+// Puts one more job into the background.
 fn make_more<J: Job>(mut made: Made<J>, job: J) -> Result<Made<J>, SessionFault>
     requires made { IsMade J.fresh made }
     requires fresh { J.fresh job }
@@ -68,7 +68,12 @@ fn make_more<J: Job>(mut made: Made<J>, job: J) -> Result<Made<J>, SessionFault>
     Ok(made)
 }
 
-/// Makes all jobs: `Start` where there is no first one, `Memory` when out of memory.
+/// Makes all jobs.
+///
+/// # Errors
+///
+/// - `Start`: the maker has no first job.
+/// - `Memory`: there is no memory for a job.
 pub(crate) fn make_jobs<M: Maker>(
     alloc: Global,
     maker: &mut M,

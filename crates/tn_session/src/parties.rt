@@ -1,4 +1,4 @@
-//! Who takes part in a session, and what it gives back.
+//! The parties of a session, and its results.
 
 ghost use Rattle.std.specs.Prelude.{◌≡◌, ℕ, Option, None, IfOk, IfSome};
 ghost use Rattle.tn_session.specs.Makers.{MakesJob};
@@ -9,26 +9,29 @@ use std::alloc::{AllocError, Global};
 use tn_cores::{Ended, Gate, Place};
 use tn_jobs::Job;
 
-/// Who makes the jobs of a session: the first is the foreground job, and up to fifteen more run in the
-/// background.
+/// A maker of the jobs of a session: the first is the foreground job, and up to fifteen more run in
+/// the background.
 pub trait Maker {
     type Job: Job;
 
-    // How many jobs are to come, where that is told.
+    // The number of jobs that are still to be made, if the maker reports it.
     ghost left: { Self → Option ℕ } = { λ _. None };
 
-    // From the first state to the last, it gives this job.
+    // From the first state to the last, the maker gives this job.
     ghost gives: { Self → Self.Job → Self → Type 0 } = { λ _ _ _. Unit {0} };
 
-    /// The next job, which has done nothing yet; `None` where there is no more. It may run out of memory
-    /// only where a job is to come.
+    /// Returns the next job, which has done nothing yet; `None` if there is no more.
+    ///
+    /// # Errors
+    ///
+    /// - `AllocError`: there is no memory, which may happen only if a job is still to be made.
     fn next(&mut self, alloc: Global) -> Result<Option<Self::Job>, AllocError>
         ensures fresh { IfOk result (λ next. IfSome next (λ job. Self.Job.fresh job)) }
         ensures makes { MakesJob (left self.old) (left self.new) result }
         ensures gives { IfOk result (λ next. IfSome next (λ job. gives self.old job self.new)) };
 }
 
-/// A gate that does nothing: nobody watches the threads.
+/// A gate that does nothing, for threads that nothing watches.
 #[derive(Drop)]
 pub struct Unwatched;
 
@@ -36,21 +39,21 @@ impl Gate for Unwatched {
     fn at(&self, _place: Place) {}
 }
 
-/// What a session tells at its end; a client's has no entries and no stops. A count that has reached the
-/// greatest `u64` stays there.
+/// The report of a session at its end; a client's has no entries and no stops. A count that has
+/// reached the greatest `u64` stays there.
 #[derive(Clone, Copy, Debug, PartialEq, Eq)]
 pub struct Report {
     pub ended: Ended,
-    /// The pieces that had their effect.
+    /// The number of pieces that had their effect.
     pub pieces: u64,
-    /// The entries that went to the foreground job.
+    /// The number of entries that went to the foreground job.
     pub entries: u64,
-    /// The stops of the foreground job.
+    /// The number of stops of the foreground job.
     pub stops: u64,
 }
 
-/// The passes of the channels, in which contracts see what was sent and handled, and whether the thread of
-/// the background jobs was told to stop; and what the terminal did, in order.
+/// The passes of the channels, in which contracts see what was sent and handled, and whether the
+/// thread of the background jobs was asked to stop; and the actions of the terminal, in order.
 #[derive(Drop)]
 pub struct Ports {
     pub net: MailPass,
@@ -63,8 +66,8 @@ pub struct Ports {
     pub transcript: Transcript,
 }
 
-/// The passes of a client session's channels, in which contracts see what was sent and handled, and whether
-/// the thread that reads the keys was told to stop; and what the core did, in order.
+/// The passes of a client session's channels, in which contracts see what was sent and handled, and
+/// whether the thread that reads the keys was asked to stop; and the actions of the core, in order.
 #[derive(Drop)]
 pub struct ClientPorts {
     pub keys: MailPass,

@@ -1,12 +1,14 @@
-//! The sessions that run at once, by number, and how many there may be.
+//! The sessions that run at once, by number, with a limit on how many there may be.
+//!
+//! Begin with `Roster`, and `RosterFault`, which says why it refused.
 //!
 //! ```
 //! let mut roster = Roster::new(alloc, 8)?;
-//! let number = roster.enter()?; // Full where eight are held
+//! let number = roster.enter()?; // Full if eight are held
 //! roster.leave(number);
 //! ```
 //!
-//! It starts no session and stops none, and holds no lock: who shares it keeps it under one.
+//! It starts no session and stops none, and holds no lock: threads that share it keep it under one.
 
 ghost use Rattle.std.specs.Prelude.{◌≡◌, ◌<◌, ◌≤◌, [], IsTrue, false, IsFalse, IfOk, OnOk, IfErr, OnErr};
 ghost use Rattle.std.specs.Prelude.{IsErrOf};
@@ -23,7 +25,7 @@ mod notes;
 /// A roster never holds more sessions than this.
 pub const MAX_SESSIONS: usize = 64;
 
-/// Why a roster was not made, or took no session.
+/// The reason why a roster was not made, or took no session.
 #[derive(Clone, Copy, Debug, PartialEq, Eq, Error)]
 pub enum RosterFault {
     #[error("limit must be 1 to 64")]
@@ -66,8 +68,13 @@ impl Model for Roster {
 }
 
 impl Roster {
-    /// A roster without sessions, of which it may hold `limit`, 1 to 64: `BadLimit` for any other. It
-    /// takes the room for all of them, so that none runs out of memory later.
+    /// Makes a roster without sessions, of which it may hold `limit`, 1 to 64. It takes the room
+    /// for all of them, so that none runs out of memory later.
+    ///
+    /// # Errors
+    ///
+    /// - `BadLimit`: `limit` is not from 1 to 64.
+    /// - `Memory`: there is no memory for the places.
     pub fn new(alloc: Global, limit: usize) -> Result<Roster, RosterFault>
         ensures limit { IfOk result (λ roster. roster.limit ≡ limit) }
         ensures empty { IfOk result (λ roster. roster.numbers ≡ []) }
@@ -82,7 +89,11 @@ impl Roster {
         Ok(Roster { sessions, limit })
     }
 
-    /// Takes in a session, and gives its number: `Full` when the session limit is reached.
+    /// Takes in a session, and returns its number.
+    ///
+    /// # Errors
+    ///
+    /// - `Full`: the session limit is reached; the roster is as it was.
     pub fn enter(&mut self) -> Result<usize, RosterFault>
         ensures enters { IfOk result (λ number. Enters self.old self.new number) }
         ensures room { OnOk result (held_count self.old < self.old.limit) }
@@ -96,7 +107,7 @@ impl Roster {
         Ok(self.sessions.insert_reserved(()))
     }
 
-    /// Lets a session go, and frees its number; false where no session has it.
+    /// Lets a session go, and frees its number; it returns false if no session has it.
     pub fn leave(&mut self, number: usize) -> bool
         ensures held { result ≡ is_held self.old number }
         ensures leaves { IsTrue result → Leaves self.old self.new number }
@@ -105,7 +116,7 @@ impl Roster {
         self.sessions.try_remove(number).is_some()
     }
 
-    /// How many sessions are held, which is never more than the limit.
+    /// Returns the number of sessions that are held, which is never more than the limit.
     pub fn count(&self) -> usize
         ensures count { result ≡ held_count self.now }
         ensures within { result ≤ self.now.limit }

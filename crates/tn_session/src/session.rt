@@ -41,10 +41,10 @@ use tn_discipline::{Entry, Limit, Settings};
 use tn_jobs::{Job, JobId};
 use tn_server::Editing;
 
-/// How many mails the mailbox holds.
+/// The most messages that the mailbox holds.
 pub(crate) const MAILS: usize = 64;
 
-/// How many entries the channel of entries holds.
+/// The most entries that the channel of entries holds.
 const ENTRIES: usize = 2;
 
 // The channels of a session, their ends and passes.
@@ -126,7 +126,7 @@ struct Posts<J> {
     tostop: bool,
 }
 
-// The jobs, the terminal and what it says first.
+// The jobs, the terminal and its opening messages.
 #[derive(Drop)]
 struct Begun<J> {
     posts: Posts<J>,
@@ -174,7 +174,7 @@ fn begin<M: Maker + Drop>(
     })
 }
 
-// Writes the opening words. Where that fails, nothing has any effect from there on.
+// Writes the opening messages. If that fails, nothing has any effect from then on.
 fn open<W: Finish>(term: &mut Term, output: &mut Output, writer: &mut W)
     ensures out { output.new.out.items ≡ [] }
     ensures opened { IsOpening term.old output.old.out.items
@@ -199,8 +199,9 @@ fn report(progress: ServerProgress) -> Report
     }
 }
 
-// Runs this thread as the terminal's, beside those that were started. On each path out of it they have been
-// joined. It takes eight, since what is lent and what is given here go together nowhere else.
+// Runs this thread as the terminal's, next to those that were started. On each path out of it they
+// have been joined. It takes eight arguments, since what is lent and what is given to it go
+// together nowhere else.
 fn run_beside<R, Rd, W, J, G>(
     rt: &R,
     started: Started<Rd, J>,
@@ -268,8 +269,8 @@ where
     Ok((report(term.progress()), ports))
 }
 
-// What the thread that reads the network works with: its seat at the mailbox, the one where it takes credits,
-// and its gate.
+// The parts of the thread that reads the network: its seat at the mailbox, the one at which it
+// takes credits, and its gate.
 #[derive(Drop)]
 struct NetPart<G> {
     seat: MailSeat,
@@ -277,7 +278,7 @@ struct NetPart<G> {
     gate: Arc<G, Global>,
 }
 
-// What a session runs on: what each thread works with, and what this one does.
+// The parts that a session runs on: those of each thread, and those of this one.
 #[derive(Drop)]
 struct Outfit<G> {
     net: NetPart<G>,
@@ -338,7 +339,8 @@ struct JobThreads<J: Job> {
     back: PromisedHandle<Option<ThreadLeft>, BackSays<J>>,
 }
 
-// Starts the threads of the jobs. Where one can't be started, gives that of the foreground job if it was.
+// Starts the threads of the jobs. If one cannot be started, it returns that of the foreground job
+// if that was.
 fn start_jobs<R, J, G>(
     rt: R,
     alloc: Global,
@@ -375,8 +377,9 @@ where
     }
 }
 
-// Starts the threads, and runs this one as the terminal's. On each path out of it every thread that was
-// started has been joined. It takes eight, since what is lent and what is given here go together nowhere else.
+// Starts the threads, and runs this one as the terminal's. On each path out of it every thread that
+// was started has been joined. It takes eight arguments, since what is lent and what is given to it
+// go together nowhere else.
 fn run<R, Rd, W, J, G>(
     rt: R,
     alloc: Global,
@@ -456,7 +459,7 @@ where
     run_beside(&rt, started, ends, passes, term, output, writer, watched)
 }
 
-// Writes the opening words and runs the threads. It takes eight, as `run` does.
+// Writes the opening messages and runs the threads. It takes eight arguments, as `run` does.
 fn run_begun<R, Rd, W, J, G>(
     rt: R,
     alloc: Global,
@@ -496,11 +499,21 @@ where
     run(rt, alloc, reader, writer, posts, outfit, term, output)
 }
 
-/// Runs a session over a connection: its reader and its writer, a terminal with these settings whose
-/// lines have at most `limit` bytes, edited at one side, and the jobs that `maker` makes. An `Err` is
-/// `Memory`, `Start` or `Channel`, and tells nothing of what was handled; all else ends in the report. A
-/// piece is handled only if at most 511 entries wait, so no report tells that too many entries waited. Their
-/// lines have at most 60,000 bytes then, so that a session holds at most 64 KB of lines.
+/// Runs a session over a connection, and returns its report when it has ended. It takes the
+/// connection's reader and writer, a terminal with these settings whose lines have at most `limit`
+/// bytes, the side that edits, and the maker of the jobs. `gate` watches the threads.
+///
+/// A piece is handled only if at most 511 entries wait, so that no report says that too many
+/// entries waited. Their lines have at most 60,000 bytes then, so that a session holds at most 64
+/// KB of lines.
+///
+/// # Errors
+///
+/// An error says nothing of what was handled before; all other faults end in the report.
+///
+/// - `Memory`: there is no memory for the session or a job.
+/// - `Start`: a thread cannot be started, or the maker has no first job.
+/// - `Channel`: the other end of a channel is gone.
 pub fn serve_session<R, Rd, W, M, G>(
     rt: R,
     alloc: Global,

@@ -1,5 +1,5 @@
-//! A thread is told once to stop: the one that reads the keys after its next piece, and the one of the
-//! background jobs before its next step.
+//! The word to stop, which a thread gets at most once: the one that reads the keys after its next
+//! piece, and the one of the background jobs before its next step.
 
 ghost use Rattle.std.specs.Prelude.{◌≡◌, ◌≢◌, ◌||◌, List, [], IsTrue, IfOk, IfSome};
 ghost use Rattle.crossbeam_channel.specs.{Claims.{view, IsSeatAt}, Ends.sends_on};
@@ -13,21 +13,21 @@ use std::alloc::{AllocError, Global};
 use std::sync::{Arc, Wait};
 use tn_cores::queue::{CutTaker, Hand, InTurn, JoinHands, Puts, QueueSender, Takes};
 
-/// The seat of the one that tells it.
+/// The seat of the thread that sends the word to stop.
 #[derive(Drop)]
 pub(crate) struct StopTeller {
     pub(crate) to: QueueSender<Stop>,
     pub(crate) pass: StopPass,
 }
 
-/// Who watches the thread that handles the messages, and how it tells another to stop.
+/// The gate of the thread that handles the messages, and the seat at which it asks another to stop.
 #[derive(Drop)]
 pub(crate) struct Watched<G> {
     pub(crate) gate: Arc<G, Global>,
     pub(crate) stops: StopTeller,
 }
 
-/// Makes both seats. Nobody has been told.
+/// Makes both seats. No thread has been asked to stop.
 pub(crate) fn make_stops(alloc: Global) -> Result<(StopTeller, StopSeat), AllocError>
     ensures { IfOk result (λ r. AreNewStops r.0 r.1) }
 {
@@ -37,8 +37,9 @@ pub(crate) fn make_stops(alloc: Global) -> Result<(StopTeller, StopSeat), AllocE
 }
 
 impl StopTeller {
-    /// Tells it where it is due and was not told before. Returns whether it was told, now or before; `None`
-    /// where nobody hears it. The channel has room for the one word.
+    /// Asks the thread to stop, if that is due and it was not asked before. It returns whether the
+    /// thread was asked, by this call or before; `None` if the other end is gone. The channel has
+    /// room for the one word.
     pub(crate) fn tell<R: Wait>(&mut self, rt: &R, is_due: bool, told: bool) -> Option<bool>
         requires seat { IsSeatAt (sends_on self.old.to) self.old.pass }
         requires word { IsTold told (view self.old.pass) }

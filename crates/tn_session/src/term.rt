@@ -1,4 +1,4 @@
-//! The thread of the terminal: mails are handled until all senders have left.
+//! The thread of the terminal, which handles messages until all senders have left.
 
 ghost use Rattle.std.specs.Prelude.{◌≡◌, ◌≤◌, ◌&&◌, ◌||◌, not, ◌++◌, ◌∷◌, List, Option, Some, [], true};
 ghost use Rattle.std.specs.{Prelude.{IsTrue, false, IfOk, IfSome}, Io.KnownBytes.Keeps};
@@ -27,7 +27,7 @@ use tn_cores::{Gate, Message, Place};
 use tn_discipline::Entry;
 use tn_jobs::JobId;
 
-/// How many threads send mails.
+/// The number of threads that send messages.
 const SENDERS: u64 = 3;
 
 /// The terminal's ends of the channels.
@@ -39,8 +39,8 @@ pub(crate) struct Ends {
     pub(crate) give: CreditSender,
 }
 
-/// The terminal's passes: of the mailbox, of the entries, and of the credits; and where it gives those for
-/// steps.
+/// The terminal's passes of the mailbox, of the entries and of the credits, and the end at which it
+/// gives credits for steps.
 #[derive(Drop)]
 pub(crate) struct Passes {
     pub(crate) mails: MailPass,
@@ -49,7 +49,7 @@ pub(crate) struct Passes {
     pub(crate) step_credits: CreditGiver,
 }
 
-// Puts an entry, or their end. `None` where the other end is gone.
+// Puts an entry, or the end of the entries. It returns `None` if the other end is gone.
 fn put_entry<R: Wait>(
     rt: &R,
     entries: &EntrySender,
@@ -68,7 +68,8 @@ fn put_entry<R: Wait>(
     }
 }
 
-// Puts what goes to the foreground job, if anything does. `None` where the other end is gone.
+// Puts the entry for the foreground job, if there is one. It returns `None` if the other end is
+// gone.
 fn put_if<R: Wait>(rt: &R, entries: &EntrySender, hand: &mut EntryPass, put: Put) -> Option<()>
     requires seat { IsSeatAt (sends_on entries.now) hand.old }
     requires role { (l : List (Option EntryT)) × (view hand.old ≡ putter l) }
@@ -92,7 +93,7 @@ pub(crate) fn leaves(message: &Message) -> u64
     }
 }
 
-// Which job said something.
+// Returns the job that sent a message, if a job did.
 fn job_of(message: &Message) -> Option<JobId> {
     match message {
         Message::Said { job, .. } => Some(*job),
@@ -100,14 +101,14 @@ fn job_of(message: &Message) -> Option<JobId> {
     }
 }
 
-// Comes by the gate where an entry was put.
+// Reports to the gate if an entry was put.
 fn tell_took<G: Gate>(gate: &G, before: u64, after: u64) {
     if after > before {
         gate.at(Place::TermTook);
     }
 }
 
-// Whether a credit is owed after a message.
+// Returns whether a credit is owed after a message.
 fn is_due(owed: bool, piece: bool) -> bool
     ensures { result ≡ (owed || piece) }
 {
@@ -120,12 +121,12 @@ fn tell_said<G: Gate>(gate: &G, job: Option<JobId>) {
     }
 }
 
-// Tells the gate how far the terminal is with what was typed.
+// Reports to the gate how far the terminal is with the typed keys.
 fn tell_typed<G: Gate>(gate: &G, term: &Term) {
     gate.typed(term.typed());
 }
 
-// Whether nothing more is to be done after a write.
+// Returns whether nothing more is to be done after a write.
 fn is_done(written: bool, mark: ServerMark) -> bool
     ensures { result ≡ (written || not (is_whole mark)) }
 {
@@ -135,9 +136,10 @@ fn is_done(written: bool, mark: ServerMark) -> bool
     }
 }
 
-// Handles one message: what it gives is put, what it appends is written, and where a write fails
-// nothing has any effect from there on. `None` where the other end of the entries is gone. It takes eight,
-// since the gate hears of the window's size before the foreground job gets what came after that.
+// Handles one message: the entry that it gives is put, the bytes that it appends are written, and
+// if a write fails nothing has any effect from then on. It returns `None` if the other end of the
+// entries is gone. It takes eight arguments, since the gate gets the window's size before the
+// foreground job gets what came after that.
 fn turn<R: Wait, W: Finish, G: Gate>(
     rt: &R,
     entries: &EntrySender,
@@ -172,14 +174,15 @@ fn turn<R: Wait, W: Finish, G: Gate>(
     put_if(rt, entries, hand, last)
 }
 
-// The background jobs are to stop where no more comes or nothing has any effect any more.
+// Returns whether the background jobs are to stop: no more comes, or nothing has any effect any
+// more.
 fn stops(progress: ServerProgress) -> bool
     ensures { result ≡ term_stops progress }
 {
     progress.over || progress.at_end
 }
 
-// Whether Back has left, after this mail.
+// Returns whether Back has left, after this message.
 fn has_left(before: bool, mail: &Mail) -> bool
     ensures { result ≡ (before || leaves_of Back mail.now) }
 {
@@ -189,14 +192,14 @@ fn has_left(before: bool, mail: &Mail) -> bool
     }
 }
 
-// Whether Back is to be told to stop: not once it has left.
+// Returns whether Back is to be asked to stop: not once it has left.
 fn is_told(progress: ServerProgress, back_left: bool) -> bool
     ensures { result ≡ (term_stops progress && not back_left) }
 {
     stops(progress) && !back_left
 }
 
-/// Tells the writer that no more comes, unless it was told.
+/// Finishes the writer, since no more comes, unless it was finished before.
 pub(crate) fn finish_unless<W: Finish>(closed: bool, writer: &mut W)
     ensures contents { Keeps (W.contents writer.old) (W.contents writer.new) }
     ensures told { W.told writer.new ≡ W.told writer.old }
@@ -208,10 +211,10 @@ pub(crate) fn finish_unless<W: Finish>(closed: bool, writer: &mut W)
 }
 
 // tools/progress: proctype Term
-/// Handles the mails until all senders have left, and gives a credit for the next piece once it is welcome,
-/// and for one more step of a background job as it takes one. `None` where the other end of a channel is
-/// gone, or a piece comes that is not welcome: the thread that reads waits for a credit before each piece,
-/// but no rule of the channels says so here.
+/// Handles the messages until all senders have left, and gives a credit for the next piece once it
+/// is welcome, and for one more step of a background job as it takes one. It returns `None` if the
+/// other end of a channel is gone, or a piece comes that is not welcome. The thread that reads
+/// waits for a credit before each piece, but no rule of the channels states that.
 pub(crate) fn run_term<R: Wait, W: Finish, G: Gate>(
     rt: &R,
     ends: &Ends,

@@ -1,4 +1,4 @@
-//! The threads of a session are started, each with a promise of what it gives back, and joined.
+//! Starts the threads of a session, each with a promise of what it gives back, and joins them.
 
 ghost use Rattle.std.specs.Prelude.{◌≡◌, [], false, None, Some, IfSome};
 ghost use Rattle.crossbeam_channel.specs.{Claims.{view, IsSeatAt}, Ends.{sends_on, receives_on}};
@@ -25,15 +25,16 @@ use tn_cores::Gate;
 use tn_cores::streams::Source;
 use tn_jobs::{Job, JobId};
 
-/// What a thread gives back that may be told to stop: its pass, and the seat where it may have been told.
+/// The parts that a thread which may be asked to stop gives back: its pass, and its seat for the
+/// word to stop.
 #[derive(Drop)]
 pub(crate) struct ThreadLeft {
     pub(crate) pass: MailPass,
     pub(crate) stops: Option<StopSeat>,
 }
 
-/// What a thread that reads promises: who it is, the job as whose text it says last words, if it does, and
-/// its seat where it may be told to stop.
+/// The promise of a thread that reads: its sender, the job as whose text it sends last words, if it
+/// does, and its seat if it may be asked to stop.
 #[derive(Drop)]
 pub(crate) struct ReaderSays<Rd> {
     to: Snapshot<MailSender>,
@@ -57,7 +58,7 @@ impl<Rd: Source> Promise<Option<ThreadLeft>> for ReaderSays<Rd> {
         StopsStay p.stops.value left.stops) };
 }
 
-/// What the thread of the foreground job promises.
+/// The promise of the thread of the foreground job.
 #[derive(Drop)]
 pub(crate) struct DeskSays<J> {
     to: Snapshot<MailSender>,
@@ -76,7 +77,7 @@ impl<J: Job> Promise<Option<(MailPass, EntryPass)>> for DeskSays<J> {
         IsTalk p.id (IsJob p.job.value) (job_acts J.reacts J.steps J.refuses) (view x.0) (view x.1)) };
 }
 
-/// What the thread of the background jobs promises.
+/// The promise of the thread of the background jobs.
 #[derive(Drop)]
 pub(crate) struct BackSays<J> {
     to: Snapshot<MailSender>,
@@ -100,8 +101,9 @@ impl<J: Job> Promise<Option<ThreadLeft>> for BackSays<J> {
         StopsStay p.stops.value left.stops) };
 }
 
-/// Starts a thread that reads, for this part, with the seat where it takes credits if it needs any, and the
-/// one where it is told to stop if it may be. `None` where it can't be started.
+/// Starts a thread that reads, for this part, with the seat at which it takes credits if it needs
+/// any, and the one for the word to stop if it may get it. It returns `None` if the thread cannot
+/// be started.
 pub(crate) fn start_reader<
     R: Threads + Wait + Copy + Send + 'static,
     Rd: Source + Drop + Send + 'static,
@@ -161,8 +163,8 @@ pub(crate) fn start_reader<
     }
 }
 
-/// What the thread of the foreground job works with beside its job: its seat at the mailbox, the one where it
-/// takes entries, and its gate.
+/// The parts of the thread of the foreground job besides its job: its seat at the mailbox, the one
+/// at which it takes entries, and its gate.
 #[derive(Drop)]
 pub(crate) struct DeskPart<G> {
     pub(crate) seat: MailSeat,
@@ -170,7 +172,7 @@ pub(crate) struct DeskPart<G> {
     pub(crate) gate: Arc<G, Global>,
 }
 
-/// Starts the thread of the foreground job. `None` where it can't be started.
+/// Starts the thread of the foreground job. It returns `None` if the thread cannot be started.
 pub(crate) fn start_desk<
     R: Threads + Wait + Copy + Send + 'static,
     J: Job + Send + 'static,
@@ -231,8 +233,8 @@ pub(crate) fn start_desk<
     }
 }
 
-/// What the thread of the background jobs works with beside them: its seat at the mailbox, the one where it
-/// is told to stop, the credits for its steps, and its gate.
+/// The parts of the thread of the background jobs besides them: its seat at the mailbox, the one
+/// for the word to stop, the credits for its steps, and its gate.
 #[derive(Drop)]
 pub(crate) struct BackPart<G> {
     pub(crate) seat: MailSeat,
@@ -241,7 +243,7 @@ pub(crate) struct BackPart<G> {
     pub(crate) gate: Arc<G, Global>,
 }
 
-/// Starts the thread of the background jobs. `None` where it can't be started.
+/// Starts the thread of the background jobs. It returns `None` if the thread cannot be started.
 pub(crate) fn start_back<
     R: Threads + Wait + Copy + Send + 'static,
     J: Job + Send + 'static,
@@ -316,7 +318,7 @@ pub(crate) struct Started<Rd: Source, J: Job> {
     pub(crate) back: PromisedHandle<Option<ThreadLeft>, BackSays<J>>,
 }
 
-/// What the threads of a session give back.
+/// The parts that the threads of a session give back.
 #[derive(Drop)]
 pub(crate) struct Returned {
     pub(crate) net: MailPass,
@@ -326,7 +328,7 @@ pub(crate) struct Returned {
 }
 
 impl<Rd: Source, J: Job> Started<Rd, J> {
-    /// Joins them all. `None` where a channel of one was disconnected.
+    /// Joins all threads. It returns `None` if a channel of one was disconnected.
     pub(crate) fn join<R: Threads + Wait>(self, rt: &R) -> Option<Returned>
         ensures net { IfSome result (λ r. IsSeatAt (sends_on self.net.promise.to.value) r.net ×
             (self.net.promise.stops.value ≡ None → TypingSends self.net.promise.who self.net.promise.job false
@@ -369,7 +371,7 @@ pub(crate) struct ClientStarted<N: Source, K: Source> {
     pub(crate) keys: PromisedHandle<Option<ThreadLeft>, ReaderSays<K>>,
 }
 
-/// What the threads of a client's session give back.
+/// The parts that the threads of a client's session give back.
 #[derive(Drop)]
 pub(crate) struct ClientReturned {
     pub(crate) net: MailPass,
@@ -377,7 +379,7 @@ pub(crate) struct ClientReturned {
 }
 
 impl<N: Source, K: Source> ClientStarted<N, K> {
-    /// Joins them both. `None` where the mailbox of one was disconnected.
+    /// Joins both threads. It returns `None` if the mailbox of one was disconnected.
     pub(crate) fn join<R: Threads + Wait>(self, rt: &R) -> Option<ClientReturned>
         ensures net { IfSome result (λ r. IsSeatAt (sends_on self.net.promise.to.value) r.net ×
             (self.net.promise.stops.value ≡ None → TypingSends self.net.promise.who self.net.promise.job false

@@ -1,4 +1,4 @@
-//! What the core of a session does, noted as it does it.
+//! The transcript of a session's core, noted as the core acts.
 
 ghost use Rattle.std.specs.Prelude.{◌≡◌, ◌∷◌, [], List, Some, IfSome, IsTrue};
 ghost use Rattle.crossbeam_channel.specs.{Claims.{view, IsSeatAt}, Ends.receives_on};
@@ -13,15 +13,15 @@ use std::snapshot::Snapshot;
 use std::sync::Wait;
 use tn_cores::streams::{Drain, write_front};
 
-/// What only a call of this module makes.
+/// A private mark: only calls of this module make one, so that only they extend a transcript.
 #[derive(Drop)]
 pub struct Seal {
     hidden: (),
 }
 
-/// What the core of a session did, for contracts: which mails it took, and what it wrote to the network
-/// before it took the next (`specs/Notes.antt`). Only a call that takes a mail, or writes, notes it. When it
-/// runs, it holds none of this but the last byte.
+/// The actions of the core of a session, for contracts: which messages it took, and which bytes it
+/// wrote to the network before it took the next (`specs/Notes.antt`). Only a call that takes a
+/// message, or writes, notes it. At run time a transcript holds none of this but the last byte.
 #[derive(Drop)]
 pub enum Transcript {
     Begun(Seal),
@@ -30,14 +30,14 @@ pub enum Transcript {
 }
 
 impl Transcript {
-    /// Nothing was taken or written.
+    /// Makes the transcript of a core that has taken and written nothing.
     pub(crate) fn new() -> Transcript
         ensures { noted_of result ≡ no_notes }
     {
         Transcript::Begun(Seal { hidden: () })
     }
 
-    // The same, and this mail was taken.
+    // Adds to the transcript that this message was taken.
     fn taking(self, mail: &Mail) -> Transcript
         ensures { noted_of result ≡ takes (noted_of self) mail.now }
     {
@@ -45,7 +45,7 @@ impl Transcript {
         Transcript::Took(Seal { hidden: () }, before, Snapshot::of(mail))
     }
 
-    // The same, and this byte was written.
+    // Adds to the transcript that this byte was written.
     fn writing_one(self, byte: u8) -> Transcript
         ensures { noted_of result ≡ writes (noted_of self) (byte ∷ []) }
     {
@@ -53,7 +53,7 @@ impl Transcript {
         Transcript::Wrote(Seal { hidden: () }, before, byte)
     }
 
-    // The same, and these bytes were written.
+    // Adds to the transcript that these bytes were written.
     fn writing(self, bytes: &[u8]) -> Transcript
         ensures { noted_of result ≡ writes (noted_of self) bytes.now }
     {
@@ -64,7 +64,7 @@ impl Transcript {
         transcript
     }
 
-    /// Takes the next mail. `None` where the other end of the mailbox is gone.
+    /// Takes the next message. It returns `None` if the other end of the mailbox is gone.
     pub(crate) fn take<R: Wait>(
         &mut self,
         rt: &R,
@@ -84,7 +84,8 @@ impl Transcript {
         Some(mail)
     }
 
-    /// Writes these bytes, or the first of them where a write fails. A write that takes none has failed.
+    /// Writes these bytes, or the first of them if a write fails. A write that takes none has
+    /// failed.
     pub(crate) fn write_out<W: Drain>(&mut self, writer: &mut W, bytes: &[u8]) -> bool
         ensures writes { NotesWrite result (W.contents writer.old) (W.contents writer.new) bytes.now
             (noted_of self.old) (noted_of self.new) }
@@ -99,7 +100,7 @@ impl Transcript {
     }
 }
 
-/// What the core of a session is to write, and the transcript of what it did.
+/// The bytes that the core of a session is to write, and the transcript of its actions.
 #[derive(Drop)]
 pub(crate) struct Output {
     pub(crate) out: Vec<u8>,
@@ -107,7 +108,7 @@ pub(crate) struct Output {
 }
 
 impl Output {
-    /// Nothing is to be written, and nothing was done.
+    /// Makes an output with nothing to write, and an empty transcript.
     pub(crate) fn new(alloc: Global) -> Output
         ensures out { result.out.items ≡ [] }
         ensures transcript { noted_of result.transcript ≡ no_notes }
@@ -118,7 +119,8 @@ impl Output {
         }
     }
 
-    /// Writes what is to be written, or the first of it where a write fails. The rest is dropped.
+    /// Writes the bytes that are to be written, or the first of them if a write fails. The rest is
+    /// dropped.
     pub(crate) fn write_out<W: Drain>(&mut self, writer: &mut W) -> bool
         ensures out { self.new.out.items ≡ [] }
         ensures writes { NotesWrite result (W.contents writer.old) (W.contents writer.new) self.old.out.items

@@ -16,7 +16,7 @@ use tn_cores::Message;
 use tn_cores::queue::Takes;
 use tn_discipline::Entry;
 
-/// A thread that waits where a channel is full, and for what it takes.
+/// A thread that waits if a channel is full, and for what it takes.
 #[derive(Clone, Copy)]
 pub(crate) struct Waiting<R>(pub(crate) R);
 

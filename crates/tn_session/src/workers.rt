@@ -1,6 +1,8 @@
-//! What the threads of a session say, but for how they wait: the ones that read, and those of its jobs. How
-//! one sends and takes is a trait (`Post`), which `tn_session` implements over the channels, so that nothing
-//! here waits or starts a thread.
+//! The work of a session's threads, without the waiting: those that read, and those of its jobs. A
+//! trait (`Post`) has the calls that send and take. `tn_session` implements it over the channels,
+//! so that nothing in this crate waits or starts a thread.
+//!
+//! Begin with `Post`, and with `MailSeat`, from which a thread sends.
 //!
 //! ```
 //! let mut seat = MailSeat { to, pass };

@@ -1,4 +1,4 @@
-//! Reference models of both ends, which compute what an end says from all that it got.
+//! Reference models of both ends, which compute what an end sends from all that it got.
 
 pub(crate) mod client;
 pub(crate) mod server;

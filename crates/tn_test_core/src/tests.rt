@@ -1,5 +1,5 @@
-//! The tests. What they compare they compare by `==` in most places, since printing both values where they
-//! differ would take most of a test's proof.
+//! The tests. They compare values by `==` in most places, since printing both values that differ
+//! would take most of a test's proof.
 
 use crate::models::page::{Stage, unlike};
 use std::alloc::Global;

@@ -1,5 +1,5 @@
-//! Tests of sessions over connections of this machine, of the services behind them and of the program, under
-//! a sentence as their name. Nothing here is part of the program, and nothing of it is proved but that it is
-//! safe.
+//! Tests of sessions over connections of this machine, of their services and of the program, with a
+//! sentence as the name of each. Nothing in this crate is part of the program, and nothing of it is
+//! proved except that it is safe.
 
 mod tests;

@@ -1,4 +1,4 @@
--- Where nothing is in flight and no end has failed, the options of both ends agree.
+-- If nothing is in flight and no end has failed, the options of both ends agree.
 use Rattle.std.proofs.Common.{◌≡◌, ℕ, Some, List, [], refl, subst}
 use Rattle.tn_nvt.specs.declared.items.Item.{Item}
 use Rattle.tn_option.specs.{EnginePair.LeadTo, Options.known_option, declared.known.Known.{Known, TheVariants.{Echo, SuppressGoAhead, Naws, Linemode}}}

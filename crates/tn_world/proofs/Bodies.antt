@@ -1,4 +1,4 @@
--- The invariant of a world after each event, in the words of the calls that it makes.
+-- The invariant of a world after each event, in terms of the calls that it makes.
 use Rattle.std.proofs.Common.{◌++◌, ◌≡◌, ◌≢◌, inl, ℕ, Bool, true, false, if◌then◌else◌, Some, None, List, [], take, drop, Vec, refl, sym, ap, ◌∙◌, subst}
 use Rattle.std.proofs.lemmas.List.Elements.{All-nil}
 use Rattle.tn_discipline.specs.{Canon.Canon, declared.reads.Entry.Entry}
@@ -125,7 +125,7 @@ asks_refused old end e later out fault goes cause lacks a b w is =
     subst (λ w. ((w.server_stopped ≡ false) × ServerRefusesCall w.server e fault) × (record old { server = end; to_client = later } ≡ w)) is
     ((goes, record { cause = cause; grows = λ m. says_something old.server e out (lacks m) }), rw (a, b) refl)
 
--- the opening words are in flight to a client that has begun
+-- the opening messages are in flight to a client that has begun
 opened_words : (here there : Options) → here ≡ opening_options → there ≡ new_options client_terms.agreement → Lead here there [] (words_in opening)
 opened_words here there a b =
     subst (λ (o : Options). Lead o there [] (words_in opening)) (sym a)
@@ -155,7 +155,7 @@ open_sound canon width height w stands reads begins began nothing said opens =
     (λ a b. opened_words w.server.terms.options w.client.options (ap (λ (t : Terms). t.options) stands.terms) begins.options)
     (λ a b. All-nil WishesNothing)
 
--- and so it was opened
+-- two ends that are just opened are an opened world
 pub opened_world : (canon : Canon) (width height : ℕ) (end : server.End) (other : client.End) (there here typed shown echoed : List ℕ) (taken : List Entry)
     → server.LeadsTo (server_calls.begun canon) end → LeadsTo [] [] end.decoder → end.failed ≡ false → end.terminal.closed ≡ false
     → client.LeadsTo (client_calls.begun width height canon.limit) other → LeadsTo [] [] other.decoder → other.failed ≡ false → there ≡ []

@@ -1,5 +1,5 @@
--- What keys and changes of the mode do to the relation between what was typed, the server once it has read all that
--- is in flight to it, and the client.
+-- The effects of keys and changes of the mode on the relation between what was typed, the server once it has
+-- read all that is in flight to it, and the client.
 use Rattle.std.proofs.Common.{◌≡◌, ◌≤◌, inl, inr, ℕ, ◌+◌, ◌==◌, Bool, true, false, not, ◌&&◌, Option, Some, None, List, [], ◌∷◌, ◌++◌, length, refl, sym, ap, ◌∙◌, if◌then◌else◌, subst}
 use Rattle.std.proofs.Common.{arith, append-nil, append_assoc, length-append}
 use Rattle.tn_codes.specs.declared.{codes.{Command.TheVariants.Ip, Verb.TheVariants.Will}, masks.Mask.Mask}
@@ -39,7 +39,7 @@ unset : (a : Bool) → not a ≡ true → a ≡ false
 unset true h = sym h
 unset false h = refl
 
--- where Local is allowed, the client reads keys as the server's terminal does
+-- if Local is allowed, the client reads keys as the server's terminal does
 pub same_role : (s : Settings) (key : ℕ) → allows_local s.flags ≡ true → role_of_key (settings_by s.flags.isig s.chars) key ≡ role_of_key s key
 same_role s key h =
     let later = and_right s.flags.icrnl (not s.flags.inlcr && not s.flags.igncr) h in
@@ -55,7 +55,7 @@ same_role s key h =
 fits_at : (s : Canon) (typed half held : List ℕ) → typed_half s typed ≡ half ++ held → length (half ++ held) ≤ max_counted s.limit
 fits_at s typed half held line = subst (λ x. length x ≤ max_counted s.limit) line (half_of-fits s.limit (roles_of s.settings typed))
 
--- A KEY that is sent at once: it is a byte, where no signal is trapped
+-- A KEY that is sent at once: it is a byte, if no signal is trapped
 raw-tests : (b key : ℕ) (sig : Option Sig) (t u v w x y : Bool) →
     raw_items (if t then role.Nl else (if u then role.Eol b else
     (if y then role.Eol2 b else (if v then role.Eof else (if w then role.Erase else (if x then role.Kill else role_by_signal false sig b)))))) (Byte key) ≡ Byte key
@@ -98,7 +98,7 @@ count-step : (limit : ℕ) (s : Settings) (key trapped plain : ℕ) (half : List
 count-step limit s key trapped plain half true isig allowed count = count-one limit s key trapped half true isig allowed count
 count-step limit s key trapped plain half false isig allowed count = count-one limit s key plain half false isig allowed count
 
--- a key, by whether it is edited here
+-- a key, by whether the client edits it
 key_by : (canon : Canon) (typed : List ℕ) (taken : List Entry) (v : Server) (c : End) (key : ℕ) (e : Bool) → edits c.mode ≡ e → ClientStays canon c
     → Agrees canon typed taken v c → Agrees canon (typed ++ key ∷ []) taken (read_all canon v (says_by e c key (Byte key))) (end_by e c key)
 key_by canon typed taken v c key true is_edit stays a =
@@ -227,7 +227,7 @@ same_if : (b : Bool) (n : ℕ) → (if b then n else n) ≡ n
 same_if true n = refl
 same_if false n = refl
 
--- where LINEMODE is on, an acknowledged mode counts
+-- if LINEMODE is on, an acknowledged mode counts
 acked : (s : Canon) (l edit : Bool) (half : List ℕ) (waiting : List Entry) (m ack : ℕ) → l ≡ true → edits ack ≡ edits m
     → read s (server_at l edit half waiting) (Sub 34 (1 ∷ ack ∷ [])) ≡ server_at l (edits m) half waiting
 acked s l edit half waiting m ack on same =
@@ -331,7 +331,7 @@ pub taken-agrees : (canon : Canon) (typed : List ℕ) (taken : List Entry) (v : 
     → Agrees canon typed taken (read_all canon v (end_of_edit_items (edits c.mode) (edits m) c.line.held ++ Sub 34 (1 ∷ ack ∷ []) ∷ [])) (with_mode c m)
 taken-agrees canon typed taken v c m ack on same a askable = taken_by canon typed taken v c m ack (edits c.mode) (edits m) on same refl refl a askable
 
--- what the relation does not look at
+-- the parts at which the relation does not look
 pub beside-agrees : (canon : Canon) (typed : List ℕ) (taken : List Entry) (v : Server) (c new : End) → linemode new.options ≡ linemode c.options
     → new ≡ record c {
       decoder = new.decoder;

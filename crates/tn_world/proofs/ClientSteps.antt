@@ -1,4 +1,5 @@
--- What the steps of a client end say and keep: calm items that fit a stream, and the relation of both ends.
+-- The items that the steps of a client end send, and what they keep: calm items that fit a stream, and the
+-- relation of both ends.
 use Rattle.std.proofs.Common.{◌≡◌, ◌⊎◌, inl, inr, ◌<◌, ℕ, suc, ◌==◌, nat_le, Bool, true, false, not, ◌&&◌, ◌||◌, Option, Some, None, List, [], ◌∷◌, ◌++◌}
 use Rattle.std.proofs.{Common.{length, refl, sym, ap, ◌∙◌, if◌then◌else◌, subst, arith, append-nil, append_assoc}, lemmas.{Bool.eqb-true, Nat.and_assoc}}
 use Rattle.std.proofs.lemmas.List.Elements.{All-nil, All-head, All-tail, All-append}
@@ -34,12 +35,12 @@ bits-mode mask =
     ap (λ (b : Bool). record { edit = b; trapsig = traps (mode_of mask) }) (ap (λ (n : ℕ). not (n == 0)) (and_assoc 1 mask 3))
     ∙ ap (λ (b : Bool). record { edit = edits mask; trapsig = b }) (ap (λ (n : ℕ). not (n == 0)) (and_assoc 2 mask 3))
 
--- and an acknowledgement keeps EDIT
+-- the bit that acknowledges a mask keeps EDIT
 edits-ack : (n : ℕ) → n < 4 → edits (bit_or n 4) ≡ edits n
 edits-ack (suc (suc (suc (suc n)))) h = absurd (omega arith)
 edits-ack _ h = refl
 
--- A KEY says bytes of data, new lines and commands.
+-- A KEY sends bytes of data, new lines and commands.
 typed_said : (canon : Canon) (c : End) (is_line : Bool) (key : ℕ) → AreSaid canon (says_typed c key (sent_as is_line key))
 typed_said canon c is_line key = record {
   fit = key_all Fits (λ b. tt) tt (λ c. tt) (edits c.mode) c.forward (role_now c key) c.line is_line key;
@@ -56,7 +57,7 @@ pub key_stays : (canon : Canon) (c : End) (key : ℕ) → ClientStays canon c �
 key_stays canon c key k =
     record { agreed = k.agreed; linemode = k.linemode; chars = k.chars; limit = typed_limit (edits c.mode) c.forward c.line (role_now c key) ∙ k.limit }
 
--- WHAT COMES: what it makes the client say is calm and fits, and the relation and what stays are kept
+-- WHAT COMES: what it makes the client send is calm and fits, and the relation and what stays are kept
 pub record Comes (canon : Canon) (c new : End) (out : List Item) : Type 0 where
   pub said : AreSaid canon out
   pub stays : ClientStays canon new
@@ -99,7 +100,7 @@ held-writes canon true false bs = writes-bytes canon bs
 held-writes canon true true bs = writes-none canon
 held-writes canon false after bs = writes-none canon
 
--- the end after an item, where its mask is this
+-- the end after an item, if its mask is this
 abbrev after_with : End → Item → ℕ → End
 after_with c item m =
     let new = end_after_item c item in
@@ -108,7 +109,7 @@ after_with c item m =
 limit_with : (c : End) (m : ℕ) → (with_mode c m).line.limit ≡ c.line.limit
 limit_with c m = left_limit (edits c.mode) (edits m) _ c.line
 
--- what keeps the mask and LINEMODE, and is answered by nothing that counts
+-- an item that keeps the mask and LINEMODE, and is answered by nothing that counts
 still-comes : (canon : Canon) (c : End) (item : Item) → mode_at c.options c.mode item ≡ c.mode → linemode (options_after c.options item) ≡ linemode c.options
     → SaysItems canon [] (answer_items c.options c.mode c.table (c.width, c.height) item) → ClientStays canon (end_after_item c item)
     → Comes canon c (end_after_item c item) (says_got c item)
@@ -122,7 +123,7 @@ still-comes canon c item mask same w stays =
     (subst (λ (xs : List Item). SaysItems canon [] (xs ++ out)) (sym (ending-same (edits c.mode) c.line.held)) w)) stays
     (λ typed taken v a. beside-agrees canon typed taken v c new same is a)
 
--- AN OPTION WORD: LINEMODE is asked for, comes on without a mask, and is consented to once
+-- AN OPTION MESSAGE: LINEMODE is asked for, comes on without a mask, and is consented to once
 sizes-write : (canon : Canon) (was on : Bool) (z : ℕ × ℕ) → SaysItems canon [] (new_size_items was on z)
 sizes-write canon was on z = writes-if canon (on && not was) (size_items z) (size-writes canon z)
 
@@ -310,7 +311,7 @@ item-comes canon c (Cmd command) k calm = still-comes canon c (Cmd command) refl
 item-comes canon c (Neg verb option) k calm = word-comes canon c verb option k calm
 item-comes canon c (Sub option params) k calm = sub-comes canon c option params k (calm-kinds canon.settings (payload_of option params) calm)
 
--- and so do calm items, one after another, however they were cut
+-- calm items, one after another, keep the relation, however they were cut
 pub items-come : (canon : Canon) (c : End) (items : List Item) → ClientStays canon c → All (IsCalmToClient canon.settings) items
     → Comes canon c (end_after_items c items) (says_items c items)
 items-come canon c [] k calm = record {
@@ -323,7 +324,7 @@ items-come canon c (item ∷ items) k calm =
     comes_then canon c (end_after_item c item) (end_after_items (end_after_item c item) items) (says_got c item) (says_items (end_after_item c item) items) one
     (items-come canon (end_after_item c item) items one.stays (All-tail (IsCalmToClient canon.settings) item items calm))
 
--- A PIECE THAT WAS REFUSED: of what its items say a prefix was said
+-- A PIECE THAT WAS REFUSED: a prefix of the replies to its items was sent
 pub stops_front : (c : End) (done left part : List Item) (here : DecoderState) (back : List ℕ) → IsStopCause (end_after_items c done) left part here back
     → (rest : List Item) × (says_items c (done ++ left) ≡ (says_items c done ++ part) ++ rest)
 stops_front c done left part here back why =
@@ -334,12 +335,12 @@ stops_front c done left part here back why =
           ∙ ap (λ (xs : List Item). says_items c done ++ xs) u.1 ∙ sym (append_assoc (says_items c done) part u.0),
     )
 
--- A NEW SIZE of the window says nothing of lines
+-- A NEW SIZE of the window does not concern lines
 pub resized-writes : (canon : Canon) (c : End) (width height : ℕ) → SaysItems canon [] (says_resize c width height)
 resized-writes canon c width height = writes-if canon (tells_size c.options && not (is_same_size (c.width, c.height) (width, height)))
     (size_items (width, height)) (size-writes canon (width, height))
 
--- A COMMAND of the user: BRK is read as IP is, and AYT and NOP as what says nothing of lines
+-- A COMMAND of the user: BRK is read as IP is, and AYT and NOP as items that do not concern lines
 pub brk-writes : (canon : Canon) → SaysItems canon (Cmd command.Ip ∷ []) (Cmd command.Brk ∷ [])
 brk-writes canon =
     let one = writes-one canon (Cmd command.Brk) tt tt in

@@ -1,4 +1,4 @@
--- What a client end writes, and what that says to a server.
+-- The items that a client end writes, and how a server takes them.
 use Rattle.std.proofs.Common.{◌≡◌, ◌⊎◌, inl, inr, ℕ, ◌==◌, Bool, true, false, not, ◌&&◌, ◌||◌, Option, Some, None, List, [], ◌∷◌, ◌++◌, length, nat_le, ◌≤◌}
 use Rattle.std.proofs.{Common.{refl, sym, ap, ◌∙◌, if◌then◌else◌, subst, arith, append-nil}, lemmas.Bool.Decides.nat_tests}
 use Rattle.std.proofs.lemmas.List.Elements.{All-nil, All-cons, All-head, All-tail, All-append}
@@ -17,7 +17,7 @@ use Rattle.tn_world.specs.relation.{Calm.{bits, IsAskable, IsCalmToServer, AsksC
 use Rattle.tn_world.proofs.{Machine.{read, read_all, SaysItems}, Engines.{reply_made, word_keeps_state}, Reading.read_all-append}
 
 -- WHAT IS WRITTEN
--- what these items say to any server, part by part
+-- how any server takes these items, part by part
 pub writes-none : (canon : Canon) → SaysItems canon [] []
 writes-none canon = record { fit = All-nil Fits; calm = All-nil (IsCalmToServer canon.settings); says_so = λ v. refl }
 
@@ -43,7 +43,7 @@ pub writes-bytes : (canon : Canon) (bs : List ℕ) → SaysItems canon (byte_ite
 writes-bytes canon [] = writes-none canon
 writes-bytes canon (b ∷ bs) = writes-append canon (Byte b ∷ []) (byte_items bs) (Byte b ∷ []) (byte_items bs) (writes-one canon (Byte b) tt tt) (writes-bytes canon bs)
 
--- what leaves a server as it is says nothing of lines
+-- an item that leaves a server as it is does not concern lines
 pub read-other : (v : Server) → record v { waiting = v.waiting ++ [] } ≡ v
 read-other v = ap (λ (w : List Entry). record v { waiting = w }) (append-nil v.waiting)
 
@@ -57,12 +57,12 @@ pub writes-if : (canon : Canon) (b : Bool) (out : List Item) → SaysItems canon
 writes-if canon true out h = h
 writes-if canon false out h = writes-none canon
 
--- AN OPTION WORD
--- a word on another option than LINEMODE leaves LINEMODE as it is
+-- AN OPTION MESSAGE
+-- a message about another option than LINEMODE leaves LINEMODE as it is
 pub word-keeps : (o : Options) (verb : Verb) (code : ℕ) → (code == 34) ≡ false → linemode (options_after_word o verb code) ≡ linemode o
 word-keeps o verb code e = ap is_yes (word_keeps_state o Us verb code e)
 
--- what says nothing, one after another
+-- items that do not concern lines, one after another
 abbrev Hushes : Canon → Item → Type 0
 Hushes canon item = SaysItems canon [] (item ∷ [])
 
@@ -74,7 +74,7 @@ pub size-writes : (canon : Canon) (z : ℕ × ℕ) → SaysItems canon [] (size_
 size-writes canon (width, height) =
     writes-hushed canon (Sub 31 (parameters_of (payload.Naws width height))) (omega arith) tt read-other
 
--- what answers such a word says nothing of lines
+-- the answer to such a message does not concern lines
 pub word-answered : (canon : Canon) (o : Options) (m : ℕ) (c : Characters) (z : ℕ × ℕ) (verb : Verb) (code : ℕ) → (code == 34) ≡ false
     → SaysItems canon [] (answer_items o m c z (Neg verb code))
 word-answered canon o m c z verb code e =
@@ -105,7 +105,7 @@ IsChatter (Some payload.ForwardYes) = Unit {0}
 IsChatter (Some payload.ForwardNo) = Unit {0}
 IsChatter (Some (payload.Slc triples)) = ⊥
 
--- what holds where there is none, and of each that changes nothing, holds of all of them
+-- a fact that holds if there is none, and of each that changes nothing, holds of all of them
 by_chatter : (P : Option Payload → Type 0) (p : Option Payload) → IsChatter p → P None → ((width height : ℕ) → P (Some (payload.Naws width height)))
     → P (Some payload.ForwardYes) → P (Some payload.ForwardNo) → P p
 by_chatter P None i lacking sized wills wonts = lacking
@@ -123,7 +123,7 @@ chatter-mode m p i = by_chatter (λ p. mode_by m p ≡ m) p i refl (λ _ _. refl
 pub chatter-chars : (c : Characters) (p : Option Payload) → IsChatter p → chars_by c p ≡ c
 chatter-chars c p i = by_chatter (λ p. chars_by c p ≡ c) p i refl (λ _ _. refl) refl refl
 
--- a forward mask is taken or dropped, and the answer says nothing of lines
+-- a forward mask is taken or dropped, and the answer does not concern lines
 abbrev pub forward_of : Option Mask → Payload
 forward_of (Some mask) = payload.ForwardOn mask
 forward_of None = payload.ForwardOff
@@ -193,19 +193,19 @@ table-unanswered m c false is = refl
 pub table-answered : (canon : Canon) (m : ℕ) (c : Characters) (b : Bool) → c ≡ standard_characters → SaysItems canon [] (payload_answers m c (table_if b))
 table-answered canon m c b is = subst (λ (xs : List Item). SaysItems canon [] xs) (sym (table-unanswered m c b is)) (writes-none canon)
 
--- a payload that is short counts where the first test holds
+-- a payload that is short counts if the first test holds
 if_short : (b : Bool) (p : Payload) → (if b && true then Some p else None) ≡ (if b then Some p else None)
 if_short true p = refl
 if_short false p = refl
 
--- where LINEMODE is on, a mode that is said is one that counts; where it is off, it counts for nothing
+-- if LINEMODE is on, a mode that is sent is one that counts; if it is off, it counts for nothing
 pub said-mode : (o : Options) (option : ℕ) (params : List ℕ) (mask : ℕ) → payload_of option params ≡ Some (payload.Mode mask)
     → payload_at o (Sub option params) ≡ (if linemode o then Some (payload.Mode mask) else None)
 said-mode o option params mask e =
     let told : (option ≡ 34) × (params ≡ 1 ∷ mask ∷ []) = says option params (payload.Mode mask) e in
     ap (λ (n : ℕ). payload_at o (Sub n params)) told.0 ∙ ap (λ (xs : List ℕ). payload_at o (Sub 34 xs)) told.1 ∙ if_short (linemode o) (payload.Mode mask)
 
--- the same of a forward mask
+-- a forward mask has at most 512 parameters
 short_params : (n : ℕ) → n ≤ 512 → nat_le n 512 ≡ true
 short_params n h = grind (arith, nat_tests)
 

@@ -10,7 +10,7 @@ use Rattle.tn_world.specs.Flight.{InFlight}
 pub start : (d : DecoderState) → LeadsTo [] [] d → InFlight d [] []
 start d h = record { stream = []; had = []; has_read = h; reads = reads_none }
 
--- what was said flies behind
+-- the items that were sent fly after the others
 pub behind : (d : DecoderState) (flight : List ℕ) (items said : List Item) → All Fits said → InFlight d flight items
     → InFlight d (flight ++ spells said) (items ++ said)
 behind d flight items said fit f = record {
@@ -23,13 +23,13 @@ behind d flight items said fit f = record {
       (reads_all_written said (f.had ++ items) (f.stream ++ flight) fit f.reads));
 }
 
--- the same, seen from what was appended
+-- the items that were sent fly after the others, seen from what was appended
 pub said_behind : (d : DecoderState) (flight later : List ℕ) (items said : List Item) → later ≡ flight ++ spells said → All Fits said → InFlight d flight items
     → InFlight d later (items ++ said)
 said_behind d flight later items said is fit f =
     subst (λ x. InFlight d x (items ++ said)) (sym is) (behind d flight items said fit f)
 
--- what a delivery leaves in flight
+-- the bytes that a delivery leaves in flight
 pub record Delivered (new : DecoderState) (got items : List Item) (later : List ℕ) : Type 0 where
   pub left : List Item
   pub all : items ≡ got ++ left

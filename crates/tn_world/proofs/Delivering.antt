@@ -1,4 +1,4 @@
--- What is in flight arrives, or the end that it reaches refuses it.
+-- The bytes in flight arrive, or the end that they reach refuses them.
 use Rattle.std.proofs.Common.{◌≡◌, ◌↔◌, ℕ, Bool, true, false, None, Result, Ok, Err, OnOk, IfErr, List, take, drop, refl, sym, ap, ◌∙◌, subst}
 use Rattle.tn_client.specs.Answering as answers
 use Rattle.tn_client.specs.Calls as client
@@ -11,7 +11,7 @@ use Rattle.tn_server.specs.{Faults.{IsOfItem, IsOfPiece}, declared.faults.Server
 use Rattle.tn_server.specs.declared.faults.ServerFault.TheVariants as server_faults
 use Rattle.tn_world.specs.Worlds.{World, UnlessStopped, DeliversToServer, DeliversToClient, ServerRefusesDelivery, ClientRefusesDelivery}
 
--- what a call says where its result is one that was found
+-- a fact of a call whose result was found
 pub on_ok : {T E X : Type 0} (r : Result T E) → X → OnOk r X
 on_ok (Ok v) x = x
 on_ok (Err e) x = tt
@@ -33,7 +33,7 @@ unless true old new happens goes so = absurd (let bad = goes in cc)
 unless false old new happens goes so = so
 
 module _ (old : World) (n : ℕ) (piece left later : List ℕ) where
-  -- at the server
+  -- a delivery at the server
   pub to_server : (end : server.End) → old.server_stopped ≡ false → server.call_fault old.server ≡ None → piece ≡ take n old.to_server
       → left ≡ drop n old.to_server → server_answers.Feeds old.server piece old.to_client later end → (w : World) → old ≡ w
       → UnlessStopped w.server_stopped w (record old { server = end; to_server = left; to_client = later })
@@ -69,7 +69,7 @@ module _ (old : World) (n : ℕ) (piece left later : List ℕ) where
         rest = ap (λ (x : List ℕ). record old { server = end; to_server = x; to_client = later }) behind;
       })
 
-  -- at the client
+  -- a delivery at the client
   pub to_client : (end : client.End) (seen : List ℕ) → old.client_stopped ≡ false → client.call_fault old.client ≡ None → piece ≡ take n old.to_client
       → left ≡ drop n old.to_client → answers.Feeds old.client piece old.to_server later old.shown seen end → (w : World) → old ≡ w
       → UnlessStopped w.client_stopped w (record old { client = end; to_client = left; to_server = later; shown = seen })

@@ -1,4 +1,5 @@
--- What the words on LINEMODE do to the engine of an end, and what a word on another option leaves.
+-- The effect of messages about LINEMODE on the engine of an end, and what a message about another option
+-- leaves.
 use Rattle.std.proofs.Common.{◌≡◌, ◌≢◌, inl, ℕ, ◌==◌, Bool, true, false, Option, Some, None, [], ◌∷◌, refl, sym, ◌∙◌, subst}
 use Rattle.std.proofs.lemmas.List.Elements.{All-nil, All-cons}
 use Rattle.std.specs.Prelude.{All}
@@ -19,7 +20,7 @@ use Rattle.tn_client.specs.Events as client_calls
 use Rattle.tn_client.specs.Terms as client_terms
 use Rattle.tn_world.specs.relation.Pictures.{NeverEnds, IsOffOrOn}
 
--- OPTION WORDS that an end says are on the option that it was asked about
+-- OPTION MESSAGES that an end sends are about the option for which it was asked
 pub one : (P : Item → Type 0) (item : Item) → P item → All P (item ∷ [])
 one P item p = All-cons P item [] p (All-nil P)
 
@@ -67,7 +68,7 @@ pub server_turned : (o : Options) → agrees_to o Them 34 ≡ true → NeverEnds
 unfolding options_after_word state_of agrees_to
 server_turned o a n = server_cell o.them.linemode.agreed o.them.linemode.state a n
 
--- and is asked for at most
+-- the answer to WILL LINEMODE is at most DO LINEMODE
 server_answer : (P : Item → Type 0) (a : Bool) (q : QState) → a ≡ true → NeverEnds q → P (Neg DoIt 34)
     → All P (word_items (word_of_answer Them 34 (cell a HeardOn q).1))
 unfolding cell
@@ -82,7 +83,7 @@ pub server_asks : (P : Item → Type 0) (o : Options) → agrees_to o Them 34 �
 unfolding reply_to state_of agrees_to
 server_asks P o a n p = server_answer P o.them.linemode.agreed o.them.linemode.state a n p
 
--- the server's own word for ECHO
+-- the server's own message for ECHO
 pub echo_keeps_state : (due wanted : Bool) (o : Options) → state_of (server_terms.options_with_echo due wanted o) Them 34 ≡ state_of o Them 34
 unfolding options_after_wish state_of
 echo_keeps_state true wanted o = refl
@@ -93,12 +94,12 @@ unfolding options_after_wish agrees_to
 echo_agrees true wanted o = refl
 echo_agrees false wanted o = refl
 
--- any word
+-- any option message
 pub word_agrees : (o : Options) (side : Side) (verb : Verb) (option : ℕ) → agrees_to (options_after_word o verb option) side 34 ≡ agrees_to o side 34
 unfolding options_after_word
 word_agrees o side verb option = AgreesAsBefore-moved o (side_of verb) option (cause_of verb) side 34
 
--- a word on another option
+-- a message about another option
 other_code : (option : ℕ) → (option == 34) ≡ false → 34 ≢ option
 other_code option e = λ same. let f : (34 == 34) ≡ false = subst (λ (n : ℕ). (n == 34) ≡ false) (sym same) e in cc
 
@@ -148,7 +149,7 @@ pub client_turned : (o : Options) → agrees_to o Us 34 ≡ true → IsOffOrOn (
 unfolding options_after_word state_of agrees_to
 client_turned o a n = client_cell o.us.linemode.agreed o.us.linemode.state a n
 
--- what it answers, by whether LINEMODE was on
+-- the answer, by whether LINEMODE was on
 abbrev pub consent : Bool → Option (Verb × ℕ)
 consent true = None
 consent false = Some (Will, 34)

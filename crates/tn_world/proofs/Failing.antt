@@ -1,4 +1,5 @@
--- What holds once an end has failed: the entries that were made still begin those that the keys give.
+-- The facts that hold once an end has failed: the entries that were made still begin those that the keys
+-- give.
 use Rattle.std.proofs.Common.{◌≡◌, inl, inr, ℕ, Bool, true, false, Option, Some, None, List, [], ◌∷◌, ◌++◌, take, drop, refl, sym, ap, ◌∙◌, if◌then◌else◌}
 use Rattle.std.proofs.{Common.{subst, append-nil, append_assoc}, lemmas.List.{take-append-drop, Elements.All-append}}
 use Rattle.std.specs.Prelude.{All, option_to_list}
@@ -27,7 +28,7 @@ use Rattle.tn_world.proofs.{Prefixes.{prefix_trans, prefix_after, prefix_same, r
 use Rattle.tn_world.proofs.{Reading.{read_all-append, entries-typed, all_parts}, ServerSteps.{KeepsEntries, calls, goes_on, stays_fed, core_call, stays_call}}
 use Rattle.tn_world.proofs.Soundness.{opposite, call_goes_on, halts_sound, breaks_sound, again_sound, sound_does, Refusal, unchanged, by_server, by_client}
 
--- what was made begins what the keys give
+-- the entries that were made begin those that the keys give
 abbrev pub Begins : Canon → World → Type 0
 Begins s w = IsPrefixOf (entries_made w) (local_entries s w.typed)
 
@@ -67,7 +68,7 @@ server_goes_on end e = by_test end.failed refl
         ≡ None = ap (λ (b : Bool). if b then Some server_faults.Failed else None) (sym is) ∙ e in cc)
     by_test false is = is
 
--- THE CLIENT SAYS NOTHING MORE
+-- THE CLIENT SENDS NOTHING MORE
 pub related_behind : (s : Canon) (w : World) → IsRelated s w → IsBehind s w
 related_behind s w h =
     let v = end_all_there w.server h.items in
@@ -81,7 +82,7 @@ related_behind s w h =
       past = h.past;
     }
 
--- by what the steps of lines make of the server
+-- the server's entries, as the steps of lines make them, begin those of a local terminal
 behind_by : (s : Canon) (w : World) (items : List Item) → InFlight w.server.decoder w.to_server items → All Fits items
     → All (IsCalmToServer s.settings) items → ServerStays s w.server
     → IsPrefixOf (w.taken ++ (read_all s (server_core w.server) items).waiting) (local_entries s w.typed) → HasPast w → IsBehind s w
@@ -99,7 +100,7 @@ begins_by : (s : Canon) (w : World) (h : IsBehind s w) → IsPrefixOf (w.taken +
 begins_by s w h =
     subst (λ (v : Server). IsPrefixOf (w.taken ++ v.waiting) (local_entries s w.typed)) (goes_on s w.server h.items h.server h.fit h.calm).core h.begins
 
--- those that wait now are the first of those that will
+-- the entries that wait are the first of those that will
 pub behind_begins : (s : Canon) (w : World) → IsBehind s w → Begins s w
 behind_begins s w h =
     let v = server_core w.server in
@@ -205,7 +206,8 @@ behind_halts s old new n fault runs r h = by_fault fault refl
     by_fault server_faults.NotOn is = absurd (subst IsOfPiece is r.is_fault)
     by_fault _ is = halted s old new n fault r h (r.halts (subst IsOfItem (sym is) tt))
 
--- the client fails: what it said begins what the items of the piece make it say, and reading more only adds entries
+-- the client fails: what it sent begins the replies to the items of the piece, and reading more only adds
+-- entries
 pub behind_breaks : (s : Canon) (old new : World) (n : ℕ) (fault : ClientFault) → NoneFailed old → ClientRefusesDelivery old n fault new → IsRelated s old
     → IsBehind s new
 behind_breaks s old new n fault none r h =
@@ -338,7 +340,7 @@ stage_halts s old new n fault r (over failed sound p) =
     let same = (r.again (r.first failed)).1 in
     over r.failed (sound_halts old new n fault r sound) (begins_as s old new (ap entries_made same) (ap (λ (w : World). w.typed) same) p)
 
--- and the client
+-- the client is refused a delivery
 stage_breaks : (s : Canon) (old new : World) (n : ℕ) (fault : ClientFault) → ClientRefusesDelivery old n fault new → Stage s old → Stage s new
 stage_breaks s old new n fault r (both none h) = silent (ap (λ (w : World). w.server.failed) r.rest ∙ none.0) r.failed
     (behind_breaks s old new n fault none r h)

@@ -27,7 +27,7 @@ use Rattle.tn_world.proofs.ClientSteps as client_steps
 use Rattle.tn_client.specs.Calls as client
 use Rattle.tn_world.proofs.ServerSteps as server_steps
 
--- what the client says joins what is in flight to the server
+-- the items that the client sends join those in flight to the server
 module _ (s : Canon) (old : World) (h : IsRelated s old) (new : World) (sound : HasPast new) where
   client_says : (said : List Item) (keys echoed : List ℕ) (end : client.End) → All Fits said → end.decoder ≡ old.client.decoder
       → IsTied s keys old.taken (h.items ++ said) h.messages old.server end

@@ -1,4 +1,4 @@
--- What an event that is done amounts to: nothing, a step of one end, a delivery, or a stop.
+-- The effect of an event that is done: nothing, a step of one end, a delivery, or a stop.
 use Rattle.std.proofs.Common.{◌≡◌, ℕ, Bool, true, false, Option, min, length, refl, ap, ◌∙◌}
 use Rattle.tn_codes.specs.declared.codes.Func.{Func}
 use Rattle.tn_server.specs.Calls as server
@@ -61,7 +61,7 @@ done_of old new (Mask mask) d = asks_by old new (Mask mask) (server_calls.mask_s
 done_of old new ServerStops d = stops true old.client_stopped d
 done_of old new ClientStops d = stops old.server_stopped true d
 
--- It fails no end: if none has failed after it, none had before.
+-- The event fails no end: if none has failed after it, none had before.
 abbrev pub FailsNone : World → World → Type 0
 FailsNone old new = (new.server.failed ≡ old.server.failed) × (new.client.failed ≡ old.client.failed)
 

@@ -1,4 +1,4 @@
--- What a server makes of items that wish for no mode, once no word is on its way to its client.
+-- How a server takes items that request no mode, once no option message is on its way to its client.
 use Rattle.std.proofs.Common.{◌≡◌, ℕ, nat_le, Bool, true, false, ◌&&◌, ◌||◌, Option, Some, None, is_some, List, [], ◌∷◌, ◌++◌, length, refl, sym, ap, ◌∙◌}
 use Rattle.std.proofs.{Common.{subst, if◌then◌else◌, append-nil, append_assoc}, lemmas.List.Elements.{All-head, All-tail}}
 use Rattle.std.specs.Prelude.{All, option_to_list}
@@ -18,7 +18,7 @@ use Rattle.tn_server.proofs.lemmas.{Terms.{terms_stay, says_nothing, told_again}
 use Rattle.tn_world.specs.Past.{IsNoWish, WishesNothing}
 use Rattle.tn_world.proofs.Quieting.{IsWaiting, echo_due, heard_by, waits_on, IsCalm, IsUnanswered, calm_answers, calm_on}
 
--- NO WISH
+-- NO REQUEST
 wish_none : (p : Option Payload) → IsNoWish p → wish_in p ≡ None
 wish_none (Some (payload.Mode mask)) h = ap (λ (b : Bool). editing_of (if b then None else Some (edits mask))) h
 wish_none _ h = refl
@@ -50,7 +50,7 @@ list_if : (c : Characters) (b : Bool) (p : Option Payload) → IsNoList p → li
 list_if c true p h = list_none c p h
 list_if c false p h = refl
 
--- AN ITEM that is no word
+-- AN ITEM that is no option message
 module _ (h : History) (item : Item) (no : wish_at (options h) (got item) ≡ None) (same : options_after (options h) (got item) ≡ options h)
     (mute : reply_items (options h) (got item) ≡ []) where
   item_keeps : options (next h (got item)) ≡ options h
@@ -80,7 +80,7 @@ module _ (h : History) (item : Item) (no : wish_at (options h) (got item) ≡ No
       ∙ said_by)
       ∙ e
 
--- A WORD: LINEMODE stays, or it changes and ECHO is due
+-- AN OPTION MESSAGE: LINEMODE stays, or it changes and ECHO is due
 due_is : (was on : Bool) (wish : ℕ) → (differ was on || (is_some (mode_sent on (asked_mask_while was wish) wish) || false)) ≡ differ was on
 due_is true true wish = rw (told_again true wish) refl
 due_is false false wish = refl

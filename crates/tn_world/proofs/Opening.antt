@@ -1,4 +1,5 @@
--- Where the special characters are the standard ones, the relation of the ends holds of a world that was just opened.
+-- If the special characters are the standard ones, the relation of the ends holds of a world that was just
+-- opened.
 use Rattle.std.proofs.{Common.{◌≡◌, inl, inr, ℕ, false, List, [], ◌∷◌, refl, sym, ap, ◌∙◌, subst}, lemmas.List.Elements.{All-nil, All-cons}}
 use Rattle.std.specs.Prelude.{All}
 use Rattle.tn_discipline.specs.{Canon.Canon, Characters.standard_characters, declared.termios.Settings.Settings, HalfLine.HalfLine}
@@ -47,7 +48,7 @@ opening_calm s is =
     (All-cons P (Neg DoIt 3) (Neg Will 1 ∷ []) (inl refl)
     (All-cons P (Neg Will 1) [] (inl refl) (All-nil P)))))
 
--- what is so before anything came
+-- the state before anything came
 server_kept : (s : Canon) (end : server.End) → server.LeadsTo (server_calls.begun s) end → ServerStays s end
 server_kept s end begins =
     stays_at s (server_calls.begun s) end begins (subst (λ (t : server_terms.Terms). NeverEnds (state_of t.options Them 34)) (sym begins.terms) asked_for)

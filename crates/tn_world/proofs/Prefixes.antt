@@ -1,4 +1,5 @@
--- What the relation says of entries: those that were made are the first of those that the keys give.
+-- The statement of the relation about entries: those that were made are the first of those that the keys
+-- give.
 use Rattle.std.proofs.Common.{◌≡◌, ℕ, List, [], ◌∷◌, ◌++◌, take, drop, refl, sym, ap, ◌∙◌, append-nil, append_assoc}
 use Rattle.tn_discipline.specs.{declared.reads.Entry.Entry, Canon.{Canon, typed_entries}, Steps.gain_next}
 use Rattle.tn_client.specs.Calls.{End}

@@ -1,4 +1,4 @@
--- What both ends do is what the relation wants of them, so that it holds in every world.
+-- Both ends act as the relation requires, so that it holds in every world.
 use Rattle.std.proofs.Common.{◌≡◌, inl, inr, ℕ, List, [], ◌∷◌, ◌++◌, ◌≤◌, ◌<◌, ◌+◌, suc, take, drop, refl, sym, ap, ◌∙◌, subst, length, arith}
 use Rattle.std.proofs.{Math.{ListN.get_or, Seq.drop-cons}, lemmas.List.{take_more, take_all, take-append-drop, length-take-le}}
 use Rattle.tn_discipline.specs.{declared.reads.Entry.Entry, Canon.Canon, Characters.standard_characters}
@@ -12,7 +12,7 @@ use Rattle.tn_world.proofs.Tied.{tied-complete, tied-half}
 none_flies : (s : Canon) (w : World) (r : IsRelated s w) → w.to_server ≡ [] → r.items ≡ []
 none_flies s w r nothing = no_items w.server.decoder r.items (subst (λ x. InFlight w.server.decoder x r.items) nothing r.flight)
 
--- the headline, from where the relation holds and no end has failed
+-- the headline, if the relation holds of the first world and no end has failed
 related_headline : (s : Canon) (start w : World) (events : List Event) → NoneFailed start → IsRelated s start → PassesQuietly start events w → Headline s w
 related_headline s start w events runs h p = record {
   prefix = stage_begins s w (stage_passes s start w events p (both runs h));

@@ -1,5 +1,5 @@
--- Once a client has had all words, a server reads what is left, and says at most one word to it; once a client has had
--- that, the server says none to its answer.
+-- Once a client has had all option messages, a server reads what is left, and sends it at most one message;
+-- once a client has had that, the server sends none for its answer.
 use Rattle.std.proofs.Common.{◌≡◌, ◌⊎◌, inl, inr, ℕ, Bool, true, false, not, ◌||◌, None, List, [], ◌∷◌, map, refl, sym, ap, ◌∙◌, subst}
 use Rattle.tn_codes.specs.declared.codes.Verb.{Verb}
 use Rattle.tn_option.specs.{EnginePair.{EnginePair, engine_step, ask_here, got_here}, QMethod.cell, declared.q_method.{QState.QState, Side.TheVariants.Us}}
@@ -11,8 +11,8 @@ use Rattle.tn_world.proofs.Stages.{Question, linemode, naws, ours, theirs, echo,
 use Rattle.tn_world.proofs.Stages.{IsOpening, both_on, both_off, asked_on, asked_off, granted_on, granted_off, pair_at, Stage, IsAtStage, same_question}
 use Rattle.tn_world.proofs.Stages.{not_done, wish_step}
 
--- WHILE A SERVER READS, once no word was on its way to the client: the opening, all of whose questions the client has
--- heard
+-- WHILE A SERVER READS, once no option message was on its way to the client: the opening, all of whose
+-- questions the client has received
 pub record IsReading (e : EnginePair) : Type 0 where
   pub waits : Question
   pub queued : Bool
@@ -20,7 +20,8 @@ pub record IsReading (e : EnginePair) : Type 0 where
   pub lead : Lead (before waits) going done
   pub is : e ≡ opening_at waits queued going done
 
--- or after it: a contrary wish is queued only behind a question that is answered already
+-- WHILE A SERVER READS, or after it: a contrary request is queued only after a question that is answered
+-- already
 pub data Waiting : Type 0 where
   w_on : Waiting
   w_off : Waiting
@@ -40,7 +41,7 @@ stage_of (w_granted_off b) = granted_off b
 abbrev pub IsWaiting : EnginePair → Type 0
 IsWaiting e = IsReading e ⊎ ((s : Waiting) × (e ≡ pair_at (stage_of s)))
 
--- where no word is on its way to the client
+-- if no message is on its way to the client
 later_heard : (s : Stage) → (pair_at s).to_there ≡ [] → (w : Waiting) × (pair_at s ≡ pair_at (stage_of w))
 later_heard both_on e = (w_on, refl)
 later_heard both_off e = (w_off, refl)
@@ -74,7 +75,7 @@ all_heard e (inr s) none =
     let w = later_heard s.0 (sym (ap (λ (x : EnginePair). x.to_there) s.1) ∙ none) in
     inr (w.0, s.1 ∙ w.1)
 
--- the server reads the next word, and where LINEMODE comes on wishes for its ECHO or against it
+-- the server reads the next message, and if LINEMODE comes on requests its ECHO or rejects it
 abbrev pub echo_due : Bool → Bool → EnginePair → EnginePair
 echo_due true wanted e = engine_step (ask_here Us 1 wanted) e
 echo_due false wanted e = e
@@ -132,7 +133,7 @@ waits_on wanted e (inr s) =
     let w = later_on wanted s.0 in
     inr (w.0, ap (λ (x : EnginePair). heard_by wanted x) s.1 ∙ w.1)
 
--- THE END of what it reads: no contrary wish is queued
+-- THE END of what it reads: no contrary request is queued
 abbrev pub is_opposite : QState → Bool
 is_opposite No = false
 is_opposite Yes = false
@@ -214,7 +215,7 @@ waiting_calms e (inr s) p none =
 pub calms_down : (e : EnginePair) → IsAtStage e → is_pending e.here ≡ false → e.to_there ≡ [] → IsCalm e
 calms_down e at p none = waiting_calms e (all_heard e at none) p none
 
--- the next word is answered by none, and LINEMODE stays
+-- the next message is answered by none, and LINEMODE stays
 abbrev pub IsUnanswered : Options → List (Verb × ℕ) → Type 0
 IsUnanswered o [] = Unit {0}
 IsUnanswered o (w ∷ ws) =

@@ -1,4 +1,4 @@
--- What the server makes of items.
+-- How the server takes items.
 use Rattle.std.proofs.Common.{◌≡◌, ◌≤◌, ◌<◌, ℕ, zero, suc, ◌+◌, ◌==◌, nat_lt, Bool, true, false, List, [], ◌∷◌, ◌++◌, length, take, refl, sym, ap, ◌∙◌}
 use Rattle.std.proofs.{Common.{if◌then◌else◌, arith, append-nil, append_assoc, length-append}, lemmas.List.Elements.{All-nil, All-cons, All-head, All-tail}}
 use Rattle.std.proofs.lemmas.Bool.{lt-ltb}
@@ -15,7 +15,7 @@ use Rattle.tn_client.specs.Replies.{byte_items}
 use Rattle.tn_world.specs.relation.{Pictures.Server, Relation.{AreOrdinary, server_at}}
 use Rattle.tn_world.proofs.Machine.{read, read_all}
 
--- both parts
+-- all of a list in two parts is all of both parts
 pub all_parts : {X : Type 0} (P : X → Type 0) (xs ys : List X) → All P (xs ++ ys) → All P xs × All P ys
 all_parts P [] ys h = (All-nil P, h)
 all_parts P (x ∷ xs) ys h =

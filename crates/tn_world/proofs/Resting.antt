@@ -1,4 +1,4 @@
--- No wish of an end waits behind another where none does at the four options that it knows.
+-- No request of an end waits after another if none does at the four options.
 use Rattle.std.proofs.Common.{◌≡◌, ◌≢◌, ◌↔◌, ℕ, ◌==◌, Bool, true, false, ◌&&◌, Option, Some, None, List, [], ◌∷◌, length, not, is_some, refl, ap, ◌∙◌, sym, arith}
 use Rattle.std.proofs.Common.{nat_eq, Bor}
 use Rattle.std.specs.{Prelude.{option_copied, slice_get}, Option.option_eq, List.list_all}
@@ -68,12 +68,12 @@ pub same_states : (o : Options) (a b c d e f g h : QState) → a ≡ state_of o 
     → e ≡ state_of o Them 1 → f ≡ state_of o Them 3 → g ≡ state_of o Them 31 → h ≡ state_of o Them 34 → a ∷ b ∷ c ∷ d ∷ e ∷ f ∷ g ∷ h ∷ [] ≡ states o
 same_states o a b c d e f g h p q r s t u v w = rw (p, q, r, s, t, u, v, w) refl
 
--- no byte is held where the length is none
+-- no byte is held if the length is none
 pub empty_where : (b : Bool) (l : List ℕ) → b ≡ (length l == 0) → b ≡ true → l ≡ []
 empty_where b [] is t = refl
 empty_where b (x ∷ l) is t = absurd (let p = sym is ∙ t in grind (arith, p))
 
--- no entry waits where there is no first one
+-- no entry waits if there is no first one
 pub none_waits : (r : Bool) (entries : List Entry) (first : Option (Bor Entry)) → is_some first ≡ not r → option_copied first ≡ slice_get entries 0
     → (r ≡ true → entries ≡ []) × (entries ≡ [] → r ≡ true)
 none_waits true [] None is copied = (λ t. refl, λ t. refl)
@@ -143,6 +143,6 @@ chars_other a b h is =
     (and_from _ _ (byte_self b.eol) (byte_self b.eol2))))))) in
     let other = rw is at h in absurd (let bad = other ∙ ap not same in cc)
 
--- a test that fails, and what holds only where it does not
+-- a test that fails, and what holds only if it does not
 pub refuted : {A B : Type 0} (test : Bool) → (A → test ≡ true) → test ≡ false → (B → A) → false ≡ true ↔ B
 refuted test told fails part = (λ t. absurd (let bad = t in cc), λ b. absurd (let bad = sym fails ∙ told (part b) in cc))

@@ -41,7 +41,7 @@ all_delivered old new n flight items got whole f adds =
     ∙ ap (λ (x : List Item). got ++ x) (no_items new d.left (subst (λ (x : List ℕ). InFlight new x d.left) (drop_all n flight whole) d.flight))
     ∙ append-nil got
 
--- THE FIRST ROUND leaves no contrary wish at the server
+-- THE FIRST ROUND leaves no contrary request at the server
 module _ (w0 w1 w2 : World) (n m : ℕ) (s0 : HasPast w0) (back : DeliversToClient w0 n w1) (all_back : length w0.to_client ≤ n)
     (there : DeliversToServer w1 m w2) (all_there : length w1.to_server ≤ m) where
   s1 : HasPast w1
@@ -148,7 +148,7 @@ module _ (answered : (c s : Characters) (ts : List Triple) → server_answers s 
         let x = s3.to_server last_server_runs in
         all_delivered w3.server.decoder w4.server.decoder m w3.to_server x.0 there.feeds.items all_there x.1 there.feeds.reads
 
-    -- what is read are the client's answers
+    -- the items that are read are the client's answers
     all_said : there.feeds.items ≡ says_items w2.client back.feeds.items
     all_said =
         let at = (s2.client_course client_ran).1 in

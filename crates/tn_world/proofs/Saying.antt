@@ -1,5 +1,5 @@
--- What a client says wishes for no mode, and what it says to an item is answered by nothing, unless it is an option
--- word.
+-- The items that a client sends request no mode, and its reply to an item is answered by nothing, unless it
+-- is an option message.
 use Rattle.std.proofs.Common.{◌≡◌, ℕ, suc, arith, ◌<◌, ◌==◌, Bool, true, false, not, ◌&&◌, ◌||◌, Option, Some, None, List, [], ◌∷◌, refl, sym, subst}
 use Rattle.std.proofs.{Common.if◌then◌else◌, lemmas.{List.Elements.{All-nil, All-cons, All-append}, Nat.and_mask}}
 use Rattle.std.specs.Prelude.{All, bit_or}
@@ -25,7 +25,7 @@ pub is-ack : (n : ℕ) → n < 4 → is_acknowledged (bit_or n 4) ≡ true
 is-ack (suc (suc (suc (suc n)))) h = absurd (omega arith)
 is-ack _ h = refl
 
--- WHATEVER HOLDS OF BYTES, NEW LINES AND COMMANDS holds of what a key makes the client say
+-- EACH FACT OF BYTES, NEW LINES AND COMMANDS holds of what a key makes the client send
 module _ (P : Item → Type 0) (byte : (b : ℕ) → P (Byte b)) (newline : P Newline) (command : (c : Command) → P (Cmd c)) where
   one_all : (item : Item) → P item → All P (item ∷ [])
   one_all item p = All-cons P item [] p (All-nil P)
@@ -125,7 +125,7 @@ module _ (P : Item → Type 0) (byte : (b : ℕ) → P (Byte b)) (newline : P Ne
   replies_all h (proposed func value) p = one_all P byte newline command (Sub 34 (parameters_of (payload.Slc (triple_of func value ∷ [])))) (p func value)
   replies_all h (sent c) p = one_all P byte newline command (Cmd (command_sent c)) (command (command_sent c))
 
--- NO WISH
+-- NO REQUEST
 pub list_no_wish : (ts : List Triple) → WishesNothing (Sub 34 (parameters_of (payload.Slc ts)))
 list_no_wish ts = subst IsNoWish (sym (told 34 (parameters_of (payload.Slc ts)) (payload.Slc ts) (refl, refl))) tt
 

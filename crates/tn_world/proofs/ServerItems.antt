@@ -1,4 +1,5 @@
--- What a server end says, whatever came and whatever its owner did, shows nothing on a screen but what is pulled.
+-- The items that a server end sends, for any items that came and calls of its owner, show nothing on a screen
+-- but what is pulled.
 use Rattle.std.proofs.Common.{◌≡◌, ℕ, ◌+◌, nat_le, Bool, true, false, not, ◌&&◌, Option, Some, None, Result, Ok, Err, List, [], ◌∷◌, ◌++◌, length, take, refl}
 use Rattle.std.proofs.{Common.{sym, ap, ◌∙◌, if◌then◌else◌, append-nil, append_assoc}, lemmas.Grind.flat_map-append}
 use Rattle.tn_codes.specs.declared.{codes.{Command.TheVariants.Ga, Func.Func, Verb.Verb}, masks.Mask.Mask, payloads.Payload.Payload, triples.Triple.Triple}

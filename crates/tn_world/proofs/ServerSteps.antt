@@ -1,4 +1,4 @@
--- What a server end does after a mark: with items that are calm, and with its owner's calls.
+-- The steps of a server end after a mark: at items that are calm, and at its owner's calls.
 use Rattle.std.proofs.Common.{◌≡◌, ◌≤◌, inl, inr, ℕ, ◌==◌, nat_le, Bool, true, false, not, ◌&&◌, ◌||◌, Option, Some, None, List, [], ◌∷◌, ◌++◌, length, take}
 use Rattle.std.proofs.{Common.{map, refl, sym, ap, ◌∙◌, if◌then◌else◌, subst, arith, append-nil}, lemmas.{Bool.Decides.nat_tests, Nat.and_assoc}}
 use Rattle.std.proofs.lemmas.List.Elements.{All-nil, All-cons, All-head, All-tail, All-append}
@@ -28,7 +28,7 @@ use Rattle.tn_world.specs.relation.Pictures.{Server, server_core, NeverEnds, IsA
 use Rattle.tn_world.proofs.{Machine.{edit_by, read, read_all}, Wishes.{allowed_wish, mask_asked, wish_asked}, Reading.{next_held, next_gain}}
 use Rattle.tn_world.proofs.Engines.{one, reply_made, echo_made, server_turned, server_asks, echo_keeps_state, word_keeps_state, echo_agrees, word_agrees}
 
--- an option word on another option leaves LINEMODE as it is
+-- an option message about another option leaves LINEMODE as it is
 pub words_keep_linemode : (o : Options) (verb : Verb) (option : ℕ) → (option == 34) ≡ false → linemode (options_after_word o verb option) ≡ linemode o
 words_keep_linemode o verb option e = ap is_yes (word_keeps_state o Them verb option e)
 
@@ -54,7 +54,7 @@ stays_typed canon old r symbols k =
     let moves = advances old.terminal.line r in
     stays_aside canon old (record old { terminal = terminal_after old.terminal r symbols }) refl refl refl moves.limit (omega (arith, moves.ahead, k.ahead)) k
 
--- new options, and perhaps a wish
+-- new options, and perhaps a request
 stays_negotiated : (canon : Canon) (old : End) (was set : Bool) (f : Flags) (n : Negotiation) → agrees_to n.options Them 34 ≡ true
     → NeverEnds (state_of n.options Them 34) → IsAllowed old.terminal.settings.flags n.wish → ServerStays canon old
     → ServerStays canon (with_negotiated old (negotiation_after was set f n))
@@ -71,7 +71,7 @@ stays_negotiated canon old was set f n agrees never allowed k =
       ahead = k.ahead;
     }
 
--- THE CORE after new options and perhaps a wish
+-- THE CORE after new options and perhaps a request
 asked_current : (on : Bool) (m : Modes) (wish : ℕ) → (modes_asked on m wish).current ≡ m.current
 asked_current true m wish = refl
 asked_current false m wish = refl
@@ -90,7 +90,7 @@ core_negotiated old was set f n =
 turned_same : (old : End) (was : Bool) → turned old was old.modes was ≡ record (server_core old) { linemode = was }
 turned_same old was = ap (λ (b : Bool). record (server_core old) { linemode = was; edit = edits (modes_before b old.modes).current }) (differ_self was)
 
--- A CALM ITEM brings no wish and no character
+-- A CALM ITEM brings no request and no character
 counted : (P : Option Payload → Type 0) (b : Bool) (p : Option Payload) → P p → P None → P (if b then p else None)
 counted P true p a none = a
 counted P false p a none = none
@@ -99,7 +99,7 @@ pub calm_at : (s : Settings) (o : Options) (item : Item) → IsCalmToServer s it
 calm_at s o (Sub option params) c = counted SaysCalmly (is_yes (state_of o Them option) && nat_le (length params) 512) (payload_of option params) c tt
 calm_at s o _ c = tt
 
--- the words of the client after which LINEMODE is on
+-- the messages of the client after which LINEMODE is on
 turned_after : (o : Options) (verb : Verb) (option : ℕ) → agrees_to o Them 34 ≡ true → NeverEnds (state_of o Them 34) → verb ≡ Will → option ≡ 34
     → state_of (options_after_word o verb option) Them 34 ≡ Yes
 turned_after o verb option a n v c =
@@ -122,7 +122,7 @@ role_is canon old item k =
     ∙ ap (λ (c : Characters). role_at (record { flags = record (canon.settings.flags) { echo = x.flags.echo }; chars = c }) edit item) k.own
     ∙ role_seen canon.settings x.flags.echo edit item
 
--- A CALM ITEM IS READ as the relation says
+-- A CALM ITEM IS READ as the relation requires
 core_ignored : (old : End) → server_core old ≡ record (server_core old) { waiting = old.terminal.entries ++ [] }
 core_ignored old = ap (λ (es : List Entry). record (server_core old) { waiting = es }) (sym (append-nil old.terminal.entries))
 
@@ -146,12 +146,12 @@ core_key canon old item symbols k =
     ∙ ap (λ (es : List Entry). record (server_core old) { half = half_next canon.limit l.held r; waiting = old.terminal.entries ++ es })
     (next_gain l.held canon.limit r)
 
--- LINEMODE comes on with the one word that says so, and begins without a mask
+-- LINEMODE comes on with the one message that turns it on, and begins without a mask
 begins_unmasked : (l : Bool) (m : Modes) → edits (modes_before (differ l true) m).current ≡ l && edits m.current
 begins_unmasked true m = refl
 begins_unmasked false m = refl
 
--- by whether it is a word on LINEMODE
+-- the server after a message, by whether it is about LINEMODE
 abbrev after_word : End → Bool → Server
 after_word old b =
     let l = linemode old.terms.options in
@@ -178,7 +178,7 @@ core_word canon old verb option k (inr t) =
 pub edits-mode_of : (mask : ℕ) → edits (mode_of mask) ≡ edits mask
 edits-mode_of mask = ap (λ (n : ℕ). not (n == 0)) (and_assoc 1 mask 3)
 
--- a mask that acknowledges counts where LINEMODE is on
+-- a mask that acknowledges counts if LINEMODE is on
 abbrev after_mode : End → Bool → Server
 after_mode old edit = record (server_core old) { edit = edit; waiting = old.terminal.entries ++ [] }
 
@@ -226,7 +226,7 @@ core_got canon old (Cmd command) k f c = core_key canon old (Cmd command) (comma
 core_got canon old (Neg verb option) k f c = core_word canon old verb option k c
 core_got canon old (Sub option params) k f c = core_sub old option params (payload_of option params) refl f c
 
--- and all stays as it was at the mark
+-- a calm subnegotiation leaves all as it was at the mark
 stays_sub : (canon : Canon) (old : End) (p : Option Payload) → SaysCalmly p → ServerStays canon old → ServerStays canon (end_after_payload old p)
 stays_sub canon old (Some (payload.Naws width height)) c k = stays_aside canon old (end_after_payload old (Some (payload.Naws width height))) refl refl refl refl refl k
 stays_sub canon old (Some (payload.Mode mask)) c k =
@@ -268,7 +268,8 @@ told_made P true m wish p = by_test (mode_of wish == m.asked)
     by_test false = one P (Sub 34 (1 ∷ mode_of wish ∷ [])) p
 told_made P false m wish p = All-nil P
 
--- what is said once the options and perhaps a wish are new: the table, the mode, the server's ECHO
+-- the items that are sent once the options and perhaps a request are new: the table, the mode, the server's
+-- ECHO
 negotiated_made : (P : Item → Type 0) (was set : Bool) (f : Flags) (c : Characters) (n : Negotiation) → All P (new_table_items was (linemode n.options) c)
     → P (Sub 34 (1 ∷ mode_of n.wish ∷ [])) → ((verb : Verb) → P (Neg verb 1)) → All P (negotiation_items was set f c n)
 negotiated_made P was set f c n table p echo =
@@ -338,7 +339,7 @@ IsCall (got item) = ⊥
 IsCall (char_set func value) = ⊥
 IsCall _ = Unit {0}
 
--- those of them that take no entry
+-- the owner's calls that take no entry
 abbrev pub KeepsEntries : Event → Type 0
 KeepsEntries (got item) = ⊥
 KeepsEntries (char_set func value) = ⊥
@@ -415,7 +416,7 @@ stays_call canon old (echo_set on) is k =
 stays_call canon old (mask_set mask) is k = k
 stays_call canon old _ is k = absurd is
 
--- a wish and the flag ECHO change nothing at LINEMODE
+-- a request and the flag ECHO change nothing at LINEMODE
 core_wished : (old : End) (mask : Option ℕ) → server_core (end_after_wish old mask) ≡ server_core old
 core_wished old None = refl
 core_wished old (Some mask) =

@@ -69,7 +69,7 @@ none_to_server old new r goes =
     let d = to_server r.mid new (length r.mid.to_server) ((to_client_stops old r.mid (length old.to_client) r.to_client).server ∙ goes) r.to_server in
     ap (λ (w : World). w.to_server) d.rest ∙ drop_all (length r.mid.to_server) r.mid.to_server (omega arith)
 
--- and where the server was stopped, nothing comes back
+-- if the server was stopped, nothing comes back
 none_to_client : (old new : World) → IsRound old new → old.server_stopped ≡ true → old.client_stopped ≡ false → new.to_client ≡ []
 none_to_client old new r stopped goes =
     let d = to_client old r.mid (length old.to_client) goes r.to_client in
@@ -180,7 +180,7 @@ module _ (answered : (c s : Characters) (ts : List Triple) → server_answers s 
   pub settled_half : half_made w ≡ local_half canon w.typed
   settled_half = (headline canon w (settles_follow s.before w s.settles canon s.follows)).half s.none_failed settled_empty
 
--- THE CALL, which stops where nothing is in flight
+-- THE CALL, which stops if nothing is in flight
 pub one_round : (old mid : World) → ¬ NothingInFlight old → IsRound old mid → NothingInFlight mid → Settles old mid
 one_round old mid some r none = record { count = 1; rounds = (old, refl, some, r); most = omega arith; ended = inl none }
 

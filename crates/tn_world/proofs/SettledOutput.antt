@@ -1,4 +1,4 @@
--- What a world that settles adds to Output.
+-- The text that a world which settles adds to Output.
 use Rattle.std.proofs.Common.{◌≡◌, inl, inr, ℕ, zero, suc, false, List, [], ◌++◌, length, sym, ap, ◌∙◌, subst, append-nil, append_assoc}
 use Rattle.std.proofs.lemmas.Grind.{flat_map-append}
 use Rattle.tn_discipline.specs.declared.echo.Symbol.{Symbol}
@@ -30,7 +30,7 @@ to_client_settles old new n text g = record { symbols = g.symbols; took = g.took
 to_server_settles : (old new : World) (n : ℕ) (text : List ℕ) → OutputGrows old (ToServer n) new text → OutputSettles old new text
 to_server_settles old new n text g = record { symbols = g.symbols; took = g.took; output = g.output }
 
--- where some deliveries lead: a world that has a past, whose client has not failed, with its Output
+-- a world after some deliveries, which has a past, whose client has not failed, with its Output
 record Settled (old new : World) (text : List ℕ) : Type 0 where
   pub past : HasPast new
   pub runs : new.client.failed ≡ false
@@ -99,6 +99,6 @@ pub stops_output : (old new : World) (at : ℕ) (cause : Cause) → HasPast old 
 stops_output old new at cause past s text o runs =
     round_refused old s.mid new s.place cause text (rounds_settle s.count old s.mid text past runs o s.rounds) s.refuses
 
--- where nothing is in flight
+-- if nothing is in flight
 pub stays_output : (w : World) (text : List ℕ) → IsOutput w text → w.client.failed ≡ false → OutputSettles w w text
 stays_output w text o runs = none_settles w text o

@@ -1,4 +1,4 @@
--- What an event adds to Output.
+-- The text that an event adds to Output.
 use Rattle.std.proofs.Common.{◌≡◌, ℕ, Bool, true, false, List, [], ◌∷◌, ◌++◌, length, map, min, take, drop, refl, sym, ap, ◌∙◌, subst, append-nil, append_assoc}
 use Rattle.std.proofs.lemmas.{Grind.flat_map-append, List.{take-append-drop, Elements.All-nil}}
 use Rattle.std.specs.Prelude.{All}
@@ -30,7 +30,7 @@ parts : (a b c d e f : List ℕ) → a ≡ d → b ≡ e → c ≡ f → a ++ (b
 parts a b c d e f p q r =
     ap (λ (x : List ℕ). x ++ (b ++ c)) p ∙ ap (λ (x : List ℕ). d ++ (x ++ c)) q ∙ ap (λ (x : List ℕ). d ++ (e ++ x)) r
 
--- the server said what shows nothing, and its queue took these symbols
+-- the server sent items that show nothing, and its queue took these symbols
 says_output : (old new : World) (text : List ℕ) (said : List Item) (more : List Symbol) → All Fits said → text_of said ≡ []
     → new.client.decoder ≡ old.client.decoder → new.shown ≡ old.shown → new.to_client ≡ old.to_client ++ spells said
     → new.server.terminal.queue ≡ old.server.terminal.queue ++ more → IsOutput old text → IsOutput new (text ++ screen more)
@@ -49,7 +49,7 @@ says_output old new text said more fit silent decoder shown appended took o =
           (sym (flat_map-append symbol_shown old.server.terminal.queue more) ∙ ap screen (sym took));
     }
 
--- nothing was said
+-- nothing was sent
 still_output : (old new : World) (text : List ℕ) → new.client.decoder ≡ old.client.decoder → new.shown ≡ old.shown → new.to_client ≡ old.to_client
     → new.server.terminal.queue ≡ old.server.terminal.queue → IsOutput old text → IsOutput new (text ++ [])
 still_output old new text decoder shown said took o =
@@ -75,7 +75,7 @@ same_grows old new e text is o =
     still_grows old new e text (ap (λ (w : World). w.client.decoder) is) (ap (λ (w : World). w.shown) is) (ap (λ (w : World). w.to_client) is)
     (ap (λ (w : World). w.server.terminal.queue) is) o
 
--- What the queue took, if none of it was pulled.
+-- The symbols that the queue took, if none of it was pulled.
 pub record Took (old new : World) (text : List ℕ) : Type 0 where
   pub symbols : List Symbol
   pub took : new.server.terminal.queue ≡ old.server.terminal.queue ++ symbols
@@ -133,7 +133,7 @@ data_text [] = refl
 data_text (symbol.Byte b ∷ symbols) = ap (λ (x : List ℕ). b ∷ x) (data_text symbols)
 data_text (symbol.Newline ∷ symbols) = ap (λ (x : List ℕ). 13 ∷ 10 ∷ x) (data_text symbols)
 
--- the front of the queue comes behind what is in flight
+-- the front of the queue comes after what is in flight
 moved : (flying waiting front back : List ℕ) → front ++ back ≡ waiting → flying ++ waiting ≡ (flying ++ front) ++ back
 moved flying waiting front back is = ap (λ (x : List ℕ). flying ++ x) (sym is) ∙ sym (append_assoc flying front back)
 
@@ -263,7 +263,7 @@ runs_grow old new (e ∷ events) text s runs r o =
     let later = runs_grow r.0 new events (text ++ screen g.symbols) (sound_does old r.0 e r.1 s) ((does_keeps old r.0 e r.1).1 ∙ runs) r.2 g.output in
     (later.0, (r.0, r.1, g, later.1))
 
--- where they lead
+-- the worlds to which they lead
 pub runs_sound : (old new : World) (events : List Event) → Runs old events new → HasPast old → HasPast new
 runs_sound old new [] r s = subst HasPast (sym r) s
 runs_sound old new (e ∷ events) r s = runs_sound r.0 new events r.2 (sound_does old r.0 e r.1 s)
@@ -286,11 +286,11 @@ ends_grow old new events at cause text s runs e o =
           (last_output old e.mid e.done text g.0 g.1 o) on;
     }
 
--- what is shown comes first
+-- the text that is shown comes first
 pub shown_begins : (w : World) (text : List ℕ) → IsOutput w text → IsPrefixOf w.shown text
 shown_begins w text o = (text_of o.items ++ screen w.server.terminal.queue, sym o.is)
 
--- a new world shows nothing, and its opening words are silent
+-- a new world shows nothing, and its opening messages are silent
 pub opened_output : (w : World) → LeadsTo [] [] w.client.decoder → w.to_client ≡ spells opening → w.shown ≡ [] → w.server.terminal.queue ≡ [] → IsOutput w []
 opened_output w began said shown none =
     record {

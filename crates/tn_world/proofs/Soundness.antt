@@ -1,4 +1,5 @@
--- Whatever happens, each end stands where some history leads, and what flies to an end that goes on are whole items.
+-- After any events, some history leads to each end, and the bytes that fly to an end that goes on are whole
+-- items.
 use Rattle.std.proofs.Common.{◌≡◌, ℕ, Bool, true, false, Some, None, List, [], ◌∷◌, ◌++◌, take, drop, refl, sym, ap, ◌∙◌, subst, if◌then◌else◌, append-nil}
 use Rattle.std.proofs.lemmas.List.Elements.{All-nil, All-append}
 use Rattle.std.specs.Prelude.{All}
@@ -41,11 +42,11 @@ use Rattle.tn_world.specs.declared.faults.Cause.TheVariants as cause
 use Rattle.tn_world.proofs.Happening.{Done, unmoved, types, enters, sends, resizes, proposes, reaches, returns, asks, takes, stops, done_of}
 use Rattle.tn_world.proofs.{Cut.{said_behind, cut_at}, Reading.all_parts, Saying.{says_no_wish, said_no_wish}}
 
--- what is true and false is nothing
+-- a test that is true and false gives anything
 pub opposite : (b : Bool) (A : Type 0) → b ≡ true → b ≡ false → A
 opposite b A p q = absurd (cc)
 
--- WHAT IS SAID FITS A STREAM
+-- ALL THAT IS SENT FITS A STREAM
 pub asked_fit : (h : server_calls.History) (old : server.End) (e : server_calls.Event) → server.LeadsTo h old → All Fits (server_steps.says old e)
 asked_fit h old e s = subst (All Fits) (server_leads.says_as h old e s) (server_fits.replies-fit h e)
 
@@ -105,7 +106,7 @@ propose_goes_on end (client_calls.proposed func value) e = by_test end.failed re
     by_test false is = is
 propose_goes_on end _ e = call_goes_on end e
 
--- THE OPTION WORDS in flight
+-- THE OPTION MESSAGES in flight
 -- two engines of a server and a client, from their beginning
 abbrev pub Lead : Options → Options → List (Verb × ℕ) → List (Verb × ℕ) → Type 0
 Lead here there ws vs = TalkTo opening_pair (record { here = here; there = there; to_here = ws; to_there = vs })
@@ -115,7 +116,7 @@ leads_on : (here there here2 there2 : Options) (ws vs ws2 vs2 : List (Verb × �
     → Lead here there ws vs → Lead here2 there2 ws2 vs2
 leads_on here there here2 there2 ws vs ws2 vs2 m l = then-Moves opening_pair _ _ l m
 
--- more is said to the server, and to the client
+-- more is sent to the server, and to the client
 said_there : (here there : Options) (xs said : List Item) (vs : List (Verb × ℕ)) → Lead here there (words_in xs ++ words_in said) vs
     → Lead here there (words_in (xs ++ said)) vs
 said_there here there xs said vs l = subst (λ (x : List (Verb × ℕ)). Lead here there x vs) (sym (words_in-append xs said)) l
@@ -124,7 +125,7 @@ said_back : (here there : Options) (ws : List (Verb × ℕ)) (xs said : List Ite
     → Lead here there ws (words_in (xs ++ said))
 said_back here there ws xs said l = subst (λ (x : List (Verb × ℕ)). Lead here there ws x) (sym (words_in-append xs said)) l
 
--- a call that says no word and leaves the options
+-- a call that sends no option message and leaves the options
 wordless : (here there there2 : Options) (xs said : List Item) (vs : List (Verb × ℕ)) → there2 ≡ there → words_in said ≡ [] → Lead here there (words_in xs) vs
     → Lead here there2 (words_in (xs ++ said)) vs
 wordless here there there2 xs said vs same none l =
@@ -132,7 +133,7 @@ wordless here there there2 xs said vs same none l =
     (subst (λ (x : List (Verb × ℕ)). Lead here there x vs) (sym (words_in-append xs said ∙ ap (λ (t : List (Verb × ℕ)). words_in xs ++ t) none
     ∙ append-nil (words_in xs))) l)
 
--- what is left of a flight
+-- the rest of a flight
 split_there : (here there : Options) (all got left : List Item) (vs : List (Verb × ℕ)) → all ≡ got ++ left → Lead here there (words_in all) vs
     → Lead here there (words_in got ++ words_in left) vs
 split_there here there all got left vs is l = subst (λ (x : List (Verb × ℕ)). Lead here there x vs) (ap words_in is ∙ words_in-append got left) l
@@ -196,7 +197,7 @@ module _ (old : World) (e : client_calls.Event) (call : client_courses.IsCall e)
       (λ a b. All-append WishesNothing (s.to_server a).0 said (s.unwished a runs)
       (subst (All WishesNothing) (says_as at.history old.client e at.leads) (says_no_wish at.history e)))
 
--- what no part of the invariant looks at
+-- the parts at which the invariant does not look
 pub sound_as : (old new : World) → new.server ≡ old.server → new.client ≡ old.client → new.to_server ≡ old.to_server → new.to_client ≡ old.to_client
     → HasPast old → HasPast new
 sound_as old new a b c d s =
@@ -369,7 +370,7 @@ pub sound_does : (old new : World) (e : Event) → RunsEvent old e new → HasPa
 sound_does old new e d s = sound_done old new e (done_of old new e d) s
 
 -- REFUSALS
--- the server stood where the items that were done lead, or failed before
+-- the server stood at the items that were done, or failed before
 pub stood : (old : server.End) (new : server.End) (piece before after : List ℕ) (fault : ServerFault) (h : server_calls.History) → server.LeadsTo h old
     → (fault ≡ server_faults.Failed → new ≡ old) → (IsOfItem fault → server_answers.StopsWithin old piece fault before after new) → IsOfPiece fault
     → (items : List Item) × server.LeadsTo (server_calls.gets h items) new
@@ -380,7 +381,7 @@ stood old new piece before after server_faults.Memory h s again halts of =
 stood old new piece before after server_faults.Failed h s again halts of = ([], subst (server.LeadsTo h) (sym (again refl)) s)
 stood old new piece before after _ h s again halts of = absurd of
 
--- what it said before it failed
+-- the bytes that it sent before it failed
 pub record SaidOn (before after : List ℕ) : Type 0 where
   pub said : List Item
   pub appended : after ≡ before ++ spells said

@@ -1,6 +1,6 @@
--- A talk that began with the opening words is at one of these stages: the client has heard the first of the five
--- questions, and the server the first of its answers; or all are answered, and the server's wishes for ECHO alone are
--- talked of. The Bool: a contrary wish is queued behind the question (RFC 1143).
+-- A talk that began with the opening messages is at one of these stages: the client has received the first of
+-- the five questions, and the server the first of its answers; or all are answered, and only the server's
+-- requests for ECHO are negotiated. The Bool: a contrary request is queued after the question (RFC 1143).
 use Rattle.std.proofs.Common.{◌≡◌, ◌⊎◌, inl, inr, ℕ, Bool, true, false, not, Option, None, List, [], ◌∷◌, ◌++◌, map, refl, sym, ap, ◌∙◌, subst, append-nil}
 use Rattle.std.proofs.lemmas.List.{map-append}
 use Rattle.std.specs.Prelude.{option_to_list}
@@ -54,7 +54,7 @@ left (before theirs) = theirs ∷ echo ∷ []
 left (before echo) = echo ∷ []
 left done = []
 
--- these questions lead from here to there
+-- these questions lead from the first state to the last
 abbrev pub Lead : Progress → List Question → Progress → Type 0
 Lead p [] r = p ≡ r
 Lead p (q ∷ qs) r = (p ≡ before q) × Lead (next q) qs r
@@ -99,7 +99,7 @@ client_at (before theirs) = client_options Yes Yes Yes No No
 client_at (before echo) = client_options Yes Yes Yes Yes No
 client_at done = client_options Yes Yes Yes Yes Yes
 
--- THE OPENING: the client granted these questions, of which the server has not heard yet
+-- THE OPENING: the client granted these questions, whose answers the server has not received yet
 abbrev pub opening_at : Question → Bool → List Question → Progress → EnginePair
 opening_at q b going heard =
     record { here = server_at q b; there = client_at heard; to_here = map grants going; to_there = map asks (left heard) }
@@ -211,7 +211,7 @@ client_step q b going (before p) lead =
       is = granted p q b going ∙ ap (λ (x : List (Verb × ℕ)). record (opening_at q b going (next p)) { to_here = x }) (sym (map-append grants going (p ∷ [])));
     })
 
--- the server wishes for its ECHO, or against it, before that question is answered: nothing is said
+-- the server requests its ECHO, or rejects it, before that question is answered: nothing is sent
 wish_queued : (l n o t : QState) (b on : Bool) → options_after_wish (server_options l n o t (want_yes b)) Us 1 on ≡ server_options l n o t (want_yes (not on))
 unfolding options_after_wish cell
 wish_queued l n o t false false = refl
@@ -255,7 +255,7 @@ opening_steps client_hears q b going heard lead = client_step q b going heard le
 opening_steps (wishes_echo on) q b going heard lead =
     inl (record { waits = q; queued = not on; going = going; heard = heard; lead = lead; is = wish_step q b on (opening_at q b going heard) refl })
 
--- after the opening
+-- each step after the opening leads to one of the later states
 later_steps : (t : Talk) (s : Stage) → IsLater (engine_step (step_of t) (pair_at s))
 unfolding options_after_word reply_to options_after_wish answer_to cell
 later_steps server_hears both_on = (both_on, refl)

@@ -10,12 +10,12 @@ use Rattle.tn_server.specs.declared.faults.ServerFault.{ServerFault}
 use Rattle.tn_server.specs.declared.faults.ServerFault.TheVariants as server_faults
 use Rattle.tn_world.specs.Worlds.{World, TakesEntry, ServerRefusesCall}
 
--- what the call gives is the first entry, if one waits
+-- the result of the call is the first entry, if one waits
 first_is : (found : Option Entry) (waits later : List Entry) → MatchOption found (waits ≡ []) (λ e. waits ≡ e ∷ later) → option_to_list found ≡ take 1 waits
 first_is None waits later is = ap (take 1) (sym is)
 first_is (Some e) waits later is = ap (take 1) (sym is)
 
--- it joins those that were taken
+-- the entry joins those that were taken
 pub takes_entry : (old : World) (end : server.End) (later : List ℕ) (found : Option Entry) (entries left : List Entry)
     → MatchOption found (old.server.terminal.entries ≡ []) (λ e. old.server.terminal.entries ≡ e ∷ left)
     → end ≡ server_steps.end_after old.server server_calls.took → later ≡ old.to_client ++ spells (server_steps.says old.server server_calls.took)

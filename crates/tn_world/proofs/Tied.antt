@@ -1,4 +1,4 @@
--- What each step of an end does to two ends that are tied by the items between them.
+-- The effect of each step of an end on two ends that are tied by the items between them.
 use Rattle.std.proofs.{Common.{◌≡◌, ℕ, Bool, true, false, List, [], ◌∷◌, ◌++◌, take, refl, sym, ap, ◌∙◌, if◌then◌else◌, subst}, lemmas.List.Elements.All-append}
 use Rattle.std.specs.Prelude.{All}
 use Rattle.tn_codes.specs.declared.codes.Command.TheVariants.{Ip}
@@ -39,7 +39,7 @@ module _ {canon : Canon} {typed : List ℕ} {taken : List Entry} {there back : L
   pub seen : Agrees canon typed taken v c
   seen = subst (λ u. Agrees canon typed taken u c) (goes_on canon s there t.server t.fit t.calm).core t.agrees
 
-  -- THE CLIENT says these
+  -- THE CLIENT sends these
   client-says : (later said : List Item) (keys : List ℕ) (new : client.End) → AreSaid canon said → All (IsCalmToClient canon.settings) later
       → ClientStays canon new → Agrees canon keys taken (read_all canon v said) new → IsTied canon keys taken (there ++ said) later s new
   client-says later said keys new w asked stays agrees =
@@ -95,7 +95,7 @@ module _ {canon : Canon} {typed : List ℕ} {taken : List Entry} {there back : L
     client = record { agreed = t.client.agreed; linemode = t.client.linemode; chars = t.client.chars; limit = t.client.limit };
   }
 
-  -- THE SERVER says these
+  -- THE SERVER sends these
   server-says : (later said : List Item) (entries : List Entry) (new : server.End) → All Fits later → All (IsCalmToServer canon.settings) later
       → All (IsCalmToClient canon.settings) said → ServerStays canon new → Agrees canon typed entries (read_all canon (server_core new) later) c
       → IsTied canon typed entries later (back ++ said) new c
@@ -127,13 +127,13 @@ module _ {canon : Canon} {typed : List ℕ} {taken : List Entry} {there back : L
       (calm_call canon s server_calls.took tt t.server) (stays_call canon s server_calls.took tt t.server)
       (take-agrees canon typed taken (server_core s) c there seen)
 
-  -- only what it has of lines has a part in it
+  -- the relation depends on no more of the server than what it has of lines
   pub server-as : (new : server.End) → server_core new ≡ server_core s → ServerStays canon new → IsTied canon typed taken there back new c
   server-as new core stays =
       tie canon typed taken there back new c t.fit t.calm t.calm_back stays t.client
       (subst (λ u. Agrees canon typed taken (read_all canon u there) c) (sym core) seen)
 
-  -- WHAT IT SAYS OF ENTRIES and of the half line
+  -- WHAT IT STATES OF ENTRIES and of the half-typed line
   pub tied-begins : IsPrefixOf (taken ++ s.terminal.entries) (typed_entries canon typed)
   tied-begins =
       prefix_trans (taken ++ s.terminal.entries) (taken ++ v.waiting) (typed_entries canon typed)

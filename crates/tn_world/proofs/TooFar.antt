@@ -1,4 +1,4 @@
--- A world is refused for too many entries that wait only where so many do.
+-- A world is refused for too many entries that wait only if that many do.
 use Rattle.std.proofs.Common.{◌≡◌, ℕ, Bool, true, false, Option, Some, None, List, length, refl, sym, ap, ◌∙◌, if◌then◌else◌}
 use Rattle.std.specs.Prelude.{option_map}
 use Rattle.tn_discipline.specs.{Characters.char_fault, declared.characters.CharFault.CharFault}
@@ -69,7 +69,7 @@ far_behind old new n s r = go (by_test old.server.failed refl)
 far_at : (old new : World) (e : Event) → HasPast old → Refuses old e (cause.Server far) new → length new.server.terminal.entries ≡ max_waiting
 far_at old new e s r = refused_at (length new.server.terminal.entries ≡ max_waiting) pty.TooFarAhead old new e (λ n d. far_behind old new n s d) r
 
--- and the terminal is never found shut
+-- the terminal is never found shut
 shut_failed : Pty pty.Closed ≡ Failed → ⊥
 shut_failed f = cc
 

@@ -1,4 +1,4 @@
--- What a key with EDIT does to the half line at both ends.
+-- The effect of a key with EDIT on the half-typed line at both ends.
 use Rattle.std.proofs.Common.{◌≡◌, ◌≤◌, ◌<◌, ℕ, ◌+◌, ◌-◌, ◌==◌, nat_lt, Bool, true, false, not, ◌&&◌, Option, Some, None, List, [], ◌∷◌, ◌++◌, length, take}
 use Rattle.std.proofs.{Common.{refl, sym, ap, ◌∙◌, if◌then◌else◌, arith, append-nil, append_assoc, length-append, length-take}, Math.Seq.take-append-add}
 use Rattle.tn_discipline.specs.{declared.{reads.Entry.Entry, termios.Settings.Settings}, Canon.Canon, Limits.max_counted, Steps.{front, half_next, gain_next}}
@@ -59,8 +59,8 @@ by_mapped s (Some b) =
 pub literal_key : (s : Settings) (key : ℕ) → IsLiteral s.chars (role_of_key s key)
 literal_key s key = by_mapped s (mapped_key s.flags key)
 
--- After a key with this role the server's half line, once it has read what is sent, is that of a local terminal up
--- to what the client holds, and the client knows its length.
+-- After a key with this role the server's half-typed line, once it has read what is sent, is that of a local
+-- terminal up to what the client holds, and the client knows its length.
 pub record Follows (s : Canon) (l : Bool) (h : List ℕ) (w : List Entry) (held : List ℕ) (r : Role) (new : HalfLine) (said : List Item) : Type 0 where
   pub half : List ℕ
   pub reads : read_all s (server_at l true h w) said ≡ server_at l true half (w ++ gain_next s.limit (h ++ held) r)
@@ -89,7 +89,8 @@ some_of n h = grind arith
 none_of : (n : ℕ) → nat_lt 0 n ≡ false → n ≡ 0
 none_of n h = grind arith
 
--- of a server with this half line and these entries, and a client that holds these bytes and knows how many are ahead
+-- a server with this half-typed line and these entries, and a client that holds these bytes and knows how
+-- many are ahead
 module _ (s : Canon) (l : Bool) (h : List ℕ) (w : List Entry) (held : List ℕ) (ahead : ℕ) (plain : AreOrdinary s.settings.chars held)
     (count : length h ≡ ahead) (fits : length (h ++ held) ≤ max_counted s.limit) where
   abbrev old : HalfLine
@@ -179,7 +180,7 @@ module _ (s : Canon) (l : Bool) (h : List ℕ) (w : List Entry) (held : List ℕ
   signal-follows Int = record { half = h; reads = refl; line = refl; ahead = count; plain = plain }
   signal-follows _ = record { half = h; reads = refl; line = refl; ahead = count; plain = plain }
 
-  -- what closes a line
+  -- the item that closes a line
   closed : (item : Item) → read_all s (server_at l true h w) ((byte_items held ++ item ∷ []) ++ []) ≡ read s (server_at l true (h ++ held) w) item
   closed item =
       ap (read_all s (server_at l true h w)) (append-nil (byte_items held ++ item ∷ []))

@@ -1,4 +1,4 @@
--- The wish in force at a server is always one that its flags allow, and what else stays.
+-- The request in force at a server is always one that its flags allow, and what else stays.
 use Rattle.std.proofs.Common.{◌≡◌, inl, inr, ℕ, Bool, true, false, if◌then◌else◌, Option, Some, None, refl, sym, ap, ◌∙◌, subst}
 use Rattle.tn_discipline.specs.{Canon.Canon, declared.termios.{Flags.Flags, Settings.Settings}}
 use Rattle.tn_option.specs.{Options.{agrees_to, state_of}, declared.q_method.Side.TheVariants.Them}
@@ -53,7 +53,7 @@ wish_allowed (next h (got item)) = allowed_after (terms.flags h) (terms.terms h)
 wish_allowed (next h (wished editing)) = allowed_after (terms.flags h) (terms.terms h).wish (Some editing) (wish_allowed h)
 wish_allowed (next h _) = wish_allowed h
 
--- what stays at a server that a history leads to
+-- the parts that stay at a server to which a history leads
 pub stays_at : (canon : Canon) (h : History) (end : End) → LeadsTo h end → NeverEnds (state_of end.terms.options Them 34)
     → end.terminal.settings.chars ≡ canon.settings.chars → IsFlagged canon end.terminal.settings → end.terminal.line.limit ≡ canon.limit → ServerStays canon end
 stays_at canon h end s never own flags limit = record {

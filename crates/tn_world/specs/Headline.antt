@@ -1,8 +1,8 @@
--- The headline: from a settled moment on, and from the opening on where the special characters are the
--- standard ones, after every quiet list of events, the entries that jobs took, followed by those that wait,
--- are a prefix of the entries that the typed keys give at a local terminal. They are all of them once nothing
--- is in flight to the server, if no end has failed, and the line that is not finished is the local
--- terminal's, too. Read `Headline` at the end first, and then the words that it is made of.
+-- The headline. From a settled moment on, and from the opening on if the special characters are the standard
+-- ones, every quiet list of events keeps this: the entries that jobs took, followed by those that wait, are a
+-- prefix of the entries that the typed keys give at a local terminal. They are all of them once nothing is in
+-- flight to the server, if no end has failed, and the half-typed line is the local terminal's, too. Read
+-- `Headline` at the end first, and then the definitions that it uses.
 use Rattle.std.specs.Prelude.{◌≡◌, ◌⊎◌, ℕ, Bool, true, IsTrue, false, IsFalse, List, [], ◌∷◌, ◌++◌}
 use Rattle.tn_codes.specs.OptionCodes as option_code
 use Rattle.tn_discipline.specs.{Canon.{Canon, typed_entries, typed_half}, Characters.standard_characters}
@@ -16,9 +16,9 @@ use Rattle.tn_world.specs.{Commands.IsTypeable, Opened.IsOpened, Past.HasPast, d
 use Rattle.tn_world.specs.{Worlds.{World, RunsEvent, Refuses, canon_of}, declared.faults.Cause.Cause}
 use Rattle.tn_world.specs.declared.events.Event.TheVariants.{Send, SetChar, Propose}
 
--- A SETTLED MOMENT: what `mark` finds.
+-- A SETTLED MOMENT: the state that `mark` finds.
 
--- RFC 1143: no wish waits behind another
+-- RFC 1143: no request waits after another
 abbrev pub is_in_order : QState → Bool
 is_in_order WantNoOpposite = false
 is_in_order WantYesOpposite = false
@@ -27,6 +27,7 @@ is_in_order Yes = true
 is_in_order WantNoEmpty = true
 is_in_order WantYesEmpty = true
 
+-- no request waits after another at any option
 abbrev pub IsSteady : Options → Type 0
 IsSteady o = (side : Side) (option : ℕ) → IsTrue (is_in_order (state_of o side option))
 
@@ -36,7 +37,7 @@ AgreeOnLinemode server client =
     ((state_of server Them option_code.linemode ≡ Yes) × (state_of client Us option_code.linemode ≡ Yes))
     ⊎ ((state_of server Them option_code.linemode ≡ No) × (state_of client Us option_code.linemode ≡ No))
 
--- Nothing is in flight, and nobody has stopped or failed.
+-- Nothing is in flight, and neither end has stopped or failed.
 pub record IsIdle (w : World) : Type 0 where
   pub to_server : w.to_server ≡ []
   pub to_client : w.to_client ≡ []
@@ -57,7 +58,7 @@ pub record IsAgreed (w : World) : Type 0 where
   pub server_steady : IsSteady w.server.terms.options
   pub client_steady : IsSteady w.client.options
 
--- the client counts no half line that the server edits
+-- the client counts no half-typed line that the server edits
 abbrev pub IsUncounted : World → Type 0
 IsUncounted w = (w.client.trapped ≡ 0) × (w.client.plain ≡ 0)
 
@@ -69,6 +70,7 @@ pub record IsEmpty (w : World) : Type 0 where
   pub counts : IsUncounted w
   pub waiting : w.server.terminal.entries ≡ []
 
+-- All is at rest, and both ends agree.
 pub record IsSettled (w : World) : Type 0 where
   pub idle : IsIdle w
   pub agreed : IsAgreed w
@@ -92,13 +94,15 @@ pub record IsOpening (canon : Canon) (w : World) : Type 0 where
   pub height : ℕ
   pub opened : IsOpened canon width height w
 
+-- a beginning: a mark, or the opening
 abbrev pub IsBeginning : Canon → World → Type 0
 IsBeginning canon w = IsMark canon w ⊎ IsOpening canon w
 
--- QUIET LISTS OF EVENTS: no special character is set or proposed, and where BRK or IP is sent, the server's
+-- QUIET LISTS OF EVENTS: no special character is set or proposed, and if BRK or IP is sent, the server's
 -- terminal has a key that interrupts. A mode may change in the middle of a line, and so may masks, sizes and
 -- ECHO; no event turns LINEMODE off or changes another flag.
 
+-- the event sets and proposes no character, and sends only a command that stands for a key
 abbrev pub IsQuietEvent : World → Event → Type 0
 IsQuietEvent w (SetChar func value) = ⊥
 IsQuietEvent w (Propose func value) = ⊥
@@ -110,7 +114,7 @@ abbrev pub RunsQuietly : World → Event → World → Type 0
 RunsQuietly old e new = (IsQuietEvent old e × RunsEvent old e new)
     ⊎ ((cause : Cause) × Refuses old e cause new)
 
--- these events, each quiet where it is done, lead from one world to the other
+-- these events, each quiet if it is done, lead from one world to the other
 abbrev pub PassesQuietly : World → List Event → World → Type 0
 PassesQuietly old [] new = new ≡ old
 PassesQuietly old (e ∷ events) new = (mid : World) × RunsQuietly old e mid × PassesQuietly mid events new
@@ -133,31 +137,34 @@ pub record Follows (canon : Canon) (w : World) : Type 0 where
   pub events : List Event
   pub passes : PassesQuietly start events w
 
--- THE SENTENCE
+-- THE THEOREM
 
+-- neither end has failed
 abbrev pub NoneFailed : World → Type 0
 NoneFailed w = IsFalse w.server.failed × IsFalse w.client.failed
 
+-- nothing is in flight to either end
 abbrev pub NothingInFlight : World → Type 0
 NothingInFlight w = (w.to_server ≡ []) × (w.to_client ≡ [])
 
--- what jobs took, and what waits for them
+-- the entries that jobs took, and those that wait for them
 abbrev pub entries_made : World → List Entry
 entries_made w = w.taken ++ w.server.terminal.entries
 
--- the line that is not finished: what the server has of it, and what the client holds
+-- the half-typed line: the bytes that the server has of it, and those that the client holds
 abbrev pub half_made : World → List ℕ
 half_made w = w.server.terminal.line.held ++ w.client.line.held
 
--- the entries of these keys at a local terminal, and their line that is not finished
+-- the entries of these keys at a local terminal, and the half-typed line that they leave
 abbrev pub local_entries : Canon → List ℕ → List Entry
 local_entries canon typed = typed_entries canon typed
 
+-- the half-typed line that these keys leave at a local terminal
 abbrev pub local_half : Canon → List ℕ → List ℕ
 local_half canon typed = typed_half canon typed
 
--- What holds of a world that follows a beginning. The first part holds whichever end failed on the way, out
--- of memory or because too many entries waited; the two others whatever is in flight to the client.
+-- The facts of a world that follows a beginning. The first part holds whichever end failed on the way, out of
+-- memory or because too many entries waited; the two others whatever is in flight to the client.
 pub record Headline (canon : Canon) (w : World) : Type 0 where
   pub prefix : IsPrefixOf (entries_made w) (local_entries canon w.typed)
   pub complete : NoneFailed w → w.to_server ≡ [] → entries_made w ≡ local_entries canon w.typed

@@ -11,7 +11,7 @@ use Rattle.tn_world.specs.{Worlds.World, declared.faults.WorldFault.WorldFault}
 use Rattle.tn_world.specs.declared.faults.Cause.TheVariants as cause
 
 -- Both ends are where they start, with lines of the same limit, and have read nothing; the terminal takes
--- keys, and the opening words are in flight.
+-- keys, and the opening messages are in flight.
 pub record IsOpened (canon : Canon) (width height : ℕ) (w : World) : Type 0 where
   pub server : server_courses.CourseLeadsTo (server_courses.started canon) w.server
   pub client : client_courses.CourseLeadsTo (client_courses.started width height canon.limit) w.client
@@ -31,11 +31,12 @@ pub record IsOpened (canon : Canon) (width height : ℕ) (w : World) : Type 0 wh
     echoed = [];
   }
 
--- out of memory alone, before any event
+-- only out of memory, before any event
 abbrev pub IsOpenFault : WorldFault → Type 0
 IsOpenFault fault =
     (fault.at ≡ 0)
     × ((fault.cause ≡ cause.Server server_faults.Memory) ⊎ (fault.cause ≡ cause.Client client_faults.Memory))
 
+-- the world with its lists of keys and entries reset
 abbrev pub with_new_lists : World → World
 with_new_lists w = record w { typed = []; taken = [] }

@@ -7,10 +7,11 @@ use Rattle.tn_client.specs.Screen.{symbol_shown, item_shown}
 use Rattle.tn_world.specs.{Flight.InFlight, Worlds.{World, RunsEvent, Refuses, StopsWithin}}
 use Rattle.tn_world.specs.declared.{events.Event.{Event, TheVariants.{ToClient, Pull}}, faults.Cause.Cause}
 
+-- the bytes that show these symbols
 abbrev pub screen : List Symbol → List ℕ
 screen symbols = flat_map symbol_shown symbols
 
--- what these items show
+-- the bytes that these items show
 abbrev pub text_of : List Item → List ℕ
 text_of items = flat_map item_shown items
 
@@ -20,7 +21,7 @@ pub record IsOutput (w : World) (text : List ℕ) : Type 0 where
   pub flight : InFlight w.client.decoder w.to_client items
   pub is : text ≡ w.shown ++ (text_of items ++ screen w.server.terminal.queue)
 
--- what the pair's queue took in an event: a pull only takes out of it
+-- the symbols that the pair's queue took in an event: a pull only takes out of it
 abbrev pub Queues : World → Event → List Symbol → World → Type 0
 Queues old (Pull n) symbols new = symbols ≡ []
 Queues old e symbols new = new.server.terminal.queue ≡ old.server.terminal.queue ++ symbols
@@ -31,7 +32,7 @@ IsNoneAt (Pull n) symbols = symbols ≡ []
 IsNoneAt (ToClient n) symbols = symbols ≡ []
 IsNoneAt e symbols = Unit {0}
 
--- What the terminal's queue took in the event is what it adds to this Output.
+-- The symbols that the terminal's queue took in the event are what it adds to this Output.
 pub record OutputGrows (old : World) (e : Event) (new : World) (text : List ℕ) : Type 0 where
   pub symbols : List Symbol
   pub took : Queues old e symbols new
@@ -45,10 +46,11 @@ OutputGrowsTo old (e ∷ events) new text last =
     (mid : World) × RunsEvent old e mid × (grows : OutputGrows old e mid text)
     × OutputGrowsTo mid events new (text ++ screen grows.symbols) last
 
+-- these events grow the Output, one after another
 abbrev pub OutputGrowsAll : World → List Event → World → List ℕ → Type 0
 OutputGrowsAll old events new text = (last : List ℕ) × OutputGrowsTo old events new text last
 
--- What the terminal's queue took while the world settled is what it adds to this Output.
+-- The symbols that the terminal's queue took while the world settled are what it adds to this Output.
 pub record OutputSettles (old new : World) (text : List ℕ) : Type 0 where
   pub symbols : List Symbol
   pub took : new.server.terminal.queue ≡ old.server.terminal.queue ++ symbols

@@ -1,4 +1,4 @@
--- What holds of every world from its opening on.
+-- The facts that hold of every world from its opening on.
 use Rattle.std.specs.Prelude.{◌≡◌, IsTrue, IsFalse, List, [], Option, Some, All}
 use Rattle.tn_codes.specs.{PayloadOf.payload_of, declared.payloads.Payload.{Payload, TheVariants.Mode}}
 use Rattle.tn_linemode.specs.{Modes.is_acknowledged, OptionWords.words_in}
@@ -13,7 +13,7 @@ use Rattle.tn_client.specs.Course as client_courses
 use Rattle.tn_client.specs.Terms as client_terms
 use Rattle.tn_world.specs.{Flight.InFlight, Worlds.World}
 
--- both option engines, with the words among what is in flight to the server and back
+-- both option engines, with the option messages among what is in flight to the server and back
 abbrev pub engines : World → List Item → List Item → EnginePair
 engines w there back =
     record {
@@ -23,7 +23,7 @@ engines w there back =
       to_there = words_in back;
     }
 
--- both engines as they begin: the server's opening words are on their way
+-- both engines as they begin: the server's opening messages are on their way
 abbrev pub opening_pair : EnginePair
 opening_pair =
     record {
@@ -38,15 +38,16 @@ abbrev pub IsNoWish : Option Payload → Type 0
 IsNoWish (Some (Mode mask)) = IsTrue (is_acknowledged mask)
 IsNoWish _ = Unit {0}
 
+-- the item requests no mode
 abbrev pub WishesNothing : Item → Type 0
 WishesNothing (Sub option params) = IsNoWish (payload_of option params)
 WishesNothing _ = Unit {0}
 
--- Whatever happened since the world was opened: the server stands where some history leads; as long as an end
--- has not failed, it is where some pieces and calls lead, and what flies to it are whole items; both ends
--- have lines of one limit. The terminal of a server that has not failed takes keys. While neither has failed,
--- both engines are where a talk leads that began with the opening words (RFC 1143), and the client wishes for
--- no mode.
+-- The past of a world, after any events since it was opened. Some history leads to the server; as long as an
+-- end has not failed, some pieces and calls lead to it, and what flies to it are whole items; both ends have
+-- lines of one limit. The terminal of a server that has not failed takes keys. While neither has failed, both
+-- engines are where a talk leads that began with the opening messages (RFC 1143), and the client requests no
+-- mode.
 pub record HasPast (w : World) : Type 0 where
   pub history : server_calls.History
   pub server : server.LeadsTo history w.server

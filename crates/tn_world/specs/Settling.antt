@@ -1,4 +1,4 @@
--- How a world comes to rest: rounds of deliveries, and what is in flight after them.
+-- The way in which a world comes to rest: rounds of deliveries, and what is in flight after them.
 use Rattle.std.specs.Prelude.{◌≡◌, ◌⊎◌, ℕ, zero, suc, ◌+◌, ◌*◌, ◌≤◌, IsFalse, [], length}
 use Rattle.tn_discipline.specs.Canon.{Canon}
 use Rattle.tn_world.specs.{Headline.{Follows, NoneFailed, NothingInFlight}, declared.faults.Cause.Cause}
@@ -18,7 +18,7 @@ RefusesRound old at cause new =
     ⊎ ((mid : World) × (at ≡ 1) × RunsEvent old (ToClient (length old.to_client)) mid
     × Refuses mid (ToServer (length mid.to_server)) cause new)
 
--- so many rounds, something being in flight before each
+-- this number of rounds, with something in flight before each
 abbrev pub RunsRounds : ℕ → World → World → Type 0
 RunsRounds zero old new = new ≡ old
 RunsRounds (suc n) old new = (mid : World) × RunsRounds n old mid × (¬ NothingInFlight mid) × IsRound mid new

@@ -23,6 +23,7 @@ use Rattle.tn_world.specs.declared.events.Event.TheVariants.{Pull, Take, Wish, R
 use Rattle.tn_world.specs.declared.events.Event.TheVariants.{Mask, ServerStops, ClientStops}
 use Rattle.tn_world.specs.declared.faults.Cause.TheVariants as cause
 
+-- A world: both ends, whether each was stopped, what is in flight, and the lists since the mark.
 pub record World : Type 0 where
   pub server : server.End
   pub client : client.End
@@ -34,11 +35,11 @@ pub record World : Type 0 where
   -- since the last mark
   pub typed : List ℕ
   pub taken : List Entry
-  -- what the server wrote on the client's screen, and the client's own echo
+  -- the server's text on the client's screen, and the client's own echo
   pub shown : List ℕ
   pub echoed : List ℕ
 
--- what the keys mean at the server's terminal now
+-- the settings under which the server's terminal takes the keys
 abbrev pub canon_of : World → Canon
 canon_of w = record { settings = w.server.terminal.settings; limit = w.server.terminal.line.limit }
 
@@ -50,6 +51,7 @@ server_fault end (server_calls.char_set func value) = server.char_fault_at end f
 server_fault end (server_calls.mask_set mask) = server.mask_fault end
 server_fault end _ = None
 
+-- why the client refuses the call, if it does
 abbrev pub client_fault : client.End → client_calls.Event → Option ClientFault
 client_fault end (client_calls.proposed func value) = client.propose_fault end func value
 client_fault end _ = client.call_fault end
@@ -59,7 +61,8 @@ abbrev pub UnlessStopped : Bool → World → World → Type 0 → Type 0
 UnlessStopped true old new happens = new ≡ old
 UnlessStopped false old new happens = happens
 
--- Something is typed that counts as this key: the client goes one step, and what it says joins the flight.
+-- A key is typed, or something that counts as this key: the client goes one step, and what it sends joins the
+-- flight.
 pub record Types (old : World) (e : client_calls.Event) (key : ℕ) (new : World) : Type 0 where
   pub accepted : client_fault old.client e ≡ None
   pub step : new
@@ -70,6 +73,7 @@ pub record Types (old : World) (e : client_calls.Event) (key : ℕ) (new : World
         typed = old.typed ++ key ∷ [];
       }
 
+-- a key is typed
 abbrev pub TypesKey : World → ℕ → World → Type 0
 TypesKey old key new = Types old (client_calls.typed key) key new
 
@@ -77,7 +81,7 @@ TypesKey old key new = Types old (client_calls.typed key) key new
 abbrev pub EntersLine : World → World → Type 0
 EntersLine old new = Types old client_calls.entered lf new
 
--- the key that a command stands for at the server's terminal now
+-- the key that a command stands for at the server's terminal
 abbrev pub key_sent : World → UserCommand → Option ℕ
 key_sent w command = key_for command (canon_of w).settings
 
@@ -119,7 +123,7 @@ pub record DeliversToClient (old : World) (n : ℕ) (new : World) : Type 0 where
         shown = new.shown;
       }
 
--- Any other call of the server: it goes one step, and what it says joins the flight.
+-- Any other call of the server: it goes one step, and what it sends joins the flight.
 pub record CallsServer (old : World) (e : server_calls.Event) (new : World) : Type 0 where
   pub accepted : server_fault old.server e ≡ None
   pub step : new
@@ -185,7 +189,7 @@ pub record ServerRefusesDelivery (old : World) (n : ℕ) (fault : ServerFault) (
   pub rest : new
       ≡ record old { server = new.server; to_server = drop n old.to_server; to_client = new.to_client }
 
--- The same at the client.
+-- The client refuses a delivery.
 pub record ClientRefusesDelivery (old : World) (n : ℕ) (fault : ClientFault) (new : World) : Type 0 where
   pub goes_on : IsFalse old.client_stopped
   pub is_fault : client.IsFault (client.call_fault old.client) fault
@@ -201,12 +205,12 @@ pub record ClientRefusesDelivery (old : World) (n : ℕ) (fault : ClientFault) (
         shown = new.shown;
       }
 
--- A call of the server is refused for its cause, or for lack of memory for what it says.
+-- A call of the server is refused for its cause, or for lack of memory for what it sends.
 pub record ServerRefusesCall (end : server.End) (e : server_calls.Event) (fault : ServerFault) : Type 0 where
   pub cause : faults.IsFault (server_fault end e) fault
   pub grows : (fault ≡ server_faults.Memory) → server_steps.says end e ≢ []
 
--- The same of the client.
+-- A call of the client is refused for its cause, or for lack of memory for what it sends.
 pub record ClientRefusesCall (end : client.End) (e : client_calls.Event) (fault : ClientFault) : Type 0 where
   pub cause : client.IsFault (client_fault end e) fault
   pub grows : (fault ≡ client_faults.Memory) → SaysOrShows end e
@@ -227,6 +231,7 @@ ServerRefusesEvent w (Mask mask) fault =
     IsFalse w.server_stopped × ServerRefusesCall w.server (server_calls.mask_set mask) fault
 ServerRefusesEvent w e fault = ⊥
 
+-- The client refuses the call of an event.
 abbrev pub ClientRefusesEvent : World → Event → ClientFault → Type 0
 ClientRefusesEvent w (Key key) fault =
     IsFalse w.client_stopped × ClientRefusesCall w.client (client_calls.typed key) fault
@@ -251,7 +256,7 @@ WantsMemory w (ToClient n) = IsFalse w.client_stopped × (n < length w.to_client
 WantsMemory w Take = w.server.terminal.entries ≢ []
 WantsMemory w e = ⊥
 
--- the event is refused: where it is no delivery, nothing changes
+-- the event is refused: if it is no delivery, nothing changes
 abbrev pub Refuses : World → Event → Cause → World → Type 0
 Refuses old e cause.Memory new = WantsMemory old e × (new ≡ old)
 Refuses old (ToServer n) (cause.Server fault) new = ServerRefusesDelivery old n fault new
@@ -276,7 +281,7 @@ pub record StopsWithin (old : World) (events : List Event) (at : ℕ) (cause : C
   pub runs : Runs old done mid
   pub refuses : Refuses mid event cause new
 
--- where the fault is that too many entries wait, as many do as there may be; a terminal is never found shut
+-- if the fault is that too many entries wait, as many do as there may be; a terminal is never found closed
 abbrev pub ShowsCause : Cause → World → Type 0
 ShowsCause (cause.Server (server_faults.Pty TooFarAhead)) w = length w.server.terminal.entries ≡ max_waiting
 ShowsCause (cause.Server (server_faults.Pty Closed)) w = ⊥

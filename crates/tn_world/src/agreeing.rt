@@ -1,4 +1,4 @@
-//! Whether the options of both ends agree.
+//! The agreement of both ends about the options.
 
 ghost use Rattle.std.specs.Prelude.{◌≡◌, ◌↔◌, IsTrue};
 ghost use Rattle.tn_option.specs.{EnginePair.facing, declared.q_method.Side.TheVariants.{Us, Them}};
@@ -9,13 +9,14 @@ use crate::world::World;
 use tn_option::{ECHO, LINEMODE, NAWS, QState, SUPPRESS_GO_AHEAD, Side};
 
 impl World {
-    /// Whether each option, in each direction, is on at both ends or off at both (RFC 1143). It is so
-    /// after any events, quiet or not, where nothing is in flight and no end has failed.
+    /// Returns whether each option, in each direction, is on at both ends or off at both (RFC
+    /// 1143). It is so after any events, quiet or not, if nothing is in flight and no end has
+    /// failed.
     pub fn options_agree(&self) -> bool
         ensures agree { IsTrue result ↔ OptionsAgree self.now }
         ensures at_rest { NoneFailed self.now → NothingInFlight self.now → IsTrue result }
     {
-        // Nothing is done here; the proof begins with what every world keeps.
+        // No code is needed; the proof begins with what every world keeps.
         let _ = &self.server;
         self.agree_on_each()
     }
@@ -29,7 +30,7 @@ impl World {
             && self.agree_on(LINEMODE)
     }
 
-    // In both directions.
+    // Returns whether an option agrees in both directions.
     fn agree_on(&self, option: u8) -> bool
         ensures us { IsTrue result → AgreeOn self.now Us option }
         ensures them { IsTrue result → AgreeOn self.now Them option }
@@ -45,7 +46,7 @@ impl World {
     }
 }
 
-// On at both ends, or off at both.
+// Returns whether one direction is on at both ends, or off at both.
 fn is_same(here: QState, there: QState) -> bool
     ensures { IsTrue result ↔ IsSameState here there }
 {

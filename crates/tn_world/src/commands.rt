@@ -7,7 +7,7 @@ use tn_client::UserCommand;
 use tn_codes::Func;
 use tn_discipline::{Role, Settings, Sig, role_of};
 
-// This key, where its role is to interrupt.
+// Returns this key, if its role is to interrupt.
 fn key_if(role: Role, key: u8) -> Option<u8>
     ensures { result ≡ key_if role key }
 {
@@ -17,7 +17,7 @@ fn key_if(role: Role, key: u8) -> Option<u8>
     }
 }
 
-// The key that interrupts at a terminal with these settings, where one does.
+// Returns the key that interrupts at a terminal with these settings, if there is one.
 fn interrupt_key(settings: &Settings) -> Option<u8>
     ensures { result ≡ interrupt_key settings.now }
 {
@@ -27,7 +27,7 @@ fn interrupt_key(settings: &Settings) -> Option<u8>
     }
 }
 
-/// The key that the command stands for at a terminal with these settings, where one does.
+/// Returns the key that the command stands for at a terminal with these settings, if there is one.
 pub(crate) fn key_for(command: UserCommand, settings: &Settings) -> Option<u8>
     ensures { result ≡ key_for command settings.now }
 {

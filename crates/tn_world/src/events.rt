@@ -1,4 +1,4 @@
-//! What may happen in a world.
+//! The events that may happen in a world.
 
 use tn_client::UserCommand;
 use tn_codes::{Func, Mask};
@@ -14,17 +14,17 @@ pub enum Event {
     NewLine,
     /// The user sends this command, which counts as the key that it stands for at the server's terminal.
     Send(UserCommand),
-    /// The first bytes in flight to the server arrive, or all where there are fewer.
+    /// The first bytes in flight to the server arrive, or all if there are fewer.
     ToServer(usize),
-    /// The first bytes in flight to the client arrive, or all where there are fewer.
+    /// The first bytes in flight to the client arrive, or all if there are fewer.
     ToClient(usize),
     /// The job writes this; what does not fit into the terminal is not written.
     Write(Text),
-    /// The server sends at most so many symbols of the terminal's screen.
+    /// The server sends at most this number of symbols of the terminal's screen.
     Pull(usize),
     /// The job asks for an entry.
     Take,
-    /// The server wishes for editing at one side.
+    /// The server requests that one side edit lines.
     Wish(Editing),
     /// The server sends a forward mask, or that there is none any more.
     Mask(Option<Mask>),
@@ -36,13 +36,13 @@ pub enum Event {
     Propose(Func, Option<u8>),
     /// The server sets or clears the terminal's flag ECHO.
     Echo(bool),
-    /// The server is gone: from here on it does nothing but give entries.
+    /// The server is gone: from then on it only gives entries.
     ServerStops,
-    /// The client is gone: from here on it does nothing.
+    /// The client is gone: from then on it does nothing.
     ClientStops,
 }
 
-/// Which end bytes are on their way to.
+/// The end to which bytes are on their way.
 #[derive(Clone, Copy, Debug, PartialEq, Eq)]
 pub enum ToWhom {
     Server,

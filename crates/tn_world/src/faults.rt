@@ -1,4 +1,4 @@
-//! Why a run ended before its last event.
+//! The reason why a run ended before its last event.
 
 ghost use Rattle.std.specs.Prelude.{◌≡◌};
 ghost use Rattle.tn_world.specs.declared.faults.Cause.TheVariants as cause;
@@ -8,7 +8,7 @@ use thiserror::Error;
 use tn_client::ClientFault;
 use tn_server::ServerFault;
 
-/// What refused an event.
+/// The cause why an event was refused.
 #[derive(Clone, Copy, Debug, PartialEq, Eq, Error)]
 pub enum Cause {
     /// The server end.
@@ -17,7 +17,7 @@ pub enum Cause {
     /// The client end.
     #[error("client: {0}")]
     Client(ClientFault),
-    /// The world itself found no memory, and nothing changed.
+    /// The world itself found no memory, and the event changed nothing.
     #[error("out of memory")]
     Memory,
 }

@@ -1,6 +1,8 @@
 //! Both ends and the two streams between them, and the promise about them: a line means the same
 //! wherever it was edited (`docs/HEADLINE.md`).
 //!
+//! Begin with `World`, and `Event`, which is what may happen in one.
+//!
 //! ```
 //! let mut world = World::open(alloc, Settings::standard(), 80, 24, Limit::standard())?;
 //! world.settle()?; // all that is in flight arrives, until nothing is in flight

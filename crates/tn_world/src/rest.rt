@@ -1,4 +1,4 @@
-//! Whether a world is at rest.
+//! The question whether a world is at rest.
 
 ghost use Rattle.std.specs.{Prelude.{◌≡◌, ◌↔◌, true, IsTrue, []}, List.list_all};
 ghost use Rattle.tn_world.specs.Headline.{IsSettled, IsSteady, is_in_order, AgreeOnLinemode, AgreeOnMask};
@@ -7,7 +7,7 @@ ghost use Rattle.tn_world.specs.Headline.{IsIdle, IsAgreed, IsUncounted, IsEmpty
 use crate::world::World;
 use tn_option::{ECHO, LINEMODE, NAWS, QState, SUPPRESS_GO_AHEAD, Side};
 
-// Where the options of an end stand, at both sides.
+// The states of the options of an end, at both sides.
 macro_rules! states {
     ($end:expr) => {
         [
@@ -30,7 +30,7 @@ impl World {
         self.is_idle() && self.is_agreed() && self.is_empty()
     }
 
-    // Nothing is in flight, and nobody has stopped or failed.
+    // Returns whether nothing is in flight, and neither end has stopped or failed.
     fn is_idle(&self) -> bool
         ensures { IsTrue result ↔ IsIdle self.now }
     {
@@ -40,7 +40,7 @@ impl World {
         !self.server.failed() && !self.client.failed()
     }
 
-    // The ends agree on options, masks and special characters.
+    // Returns whether the ends agree on options, masks and special characters.
     fn is_agreed(&self) -> bool
         ensures { IsTrue result ↔ IsAgreed self.now }
     {
@@ -53,7 +53,7 @@ impl World {
         self.is_server_steady() && self.is_client_steady()
     }
 
-    // The mask that was asked for is in force at both ends.
+    // Returns whether the mask that was asked for is in force at both ends.
     fn are_masks_agreed(&self) -> bool
         ensures { IsTrue result ↔ AgreeOnMask self.now }
     {
@@ -83,7 +83,7 @@ impl World {
         are_in_order(&states!(self.client))
     }
 
-    // No line is half typed, and no entry waits.
+    // Returns whether no line is half typed, and no entry waits.
     fn is_empty(&self) -> bool
         ensures { IsTrue result ↔ IsEmpty self.now }
     {
@@ -106,7 +106,7 @@ impl World {
         self.server.waiting(0).is_none()
     }
 
-    // The client counts no half line that the server edits.
+    // Returns whether the client counts no half-typed line that the server edits.
     fn is_uncounted(&self) -> bool
         ensures { IsTrue result ↔ IsUncounted self.now }
     {
@@ -121,7 +121,7 @@ fn are_in_order(states: &[QState]) -> bool
     states.iter().all(|state| is_in_order(*state))
 }
 
-// No wish waits behind another (RFC 1143).
+// Returns whether no request waits after another (RFC 1143).
 fn is_in_order(state: QState) -> bool
     ensures { result ≡ is_in_order state }
 {

@@ -1,4 +1,4 @@
-//! What each event does.
+//! The effect of each event.
 
 ghost use Rattle.std.specs.Prelude.{◌≡◌, ◌≢◌, ◌<◌, ℕ, IsFalse, List, [], length, take, drop, IfOk, IfErr};
 ghost use Rattle.std.specs.Prelude.{OnOk, OnErr};
@@ -20,9 +20,15 @@ use tn_discipline::Text;
 use tn_server::Editing;
 
 impl World {
-    /// Does these events, one after another, up to the first that is refused: by `Server` or `Client` as its
-    /// end refuses the call, or the delivery, whose bytes have left the flight; by `Memory` where the world
-    /// itself grows. Another event that is refused changes nothing.
+    /// Does these events, one after another, up to the first that is refused.
+    ///
+    /// # Errors
+    ///
+    /// The events before the refused one were done.
+    ///
+    /// - `Server`, `Client`: that end refuses the call, or the delivery, whose bytes have left the
+    ///   flight. A call that is no delivery changes nothing.
+    /// - `Memory`: the world itself cannot grow; the event changes nothing.
     pub fn run(&mut self, events: &[Event]) -> Result<(), WorldFault>
         ensures runs { OnOk result (Runs self.old events.now self.new) }
         ensures ends { IfErr result (λ fault. StopsWithin self.old events.now fault.at fault.cause self.new) }
@@ -37,7 +43,7 @@ impl World {
             IsFalse self.old.client.failed →
             OutputGrowsBefore self.old events.now fault.at fault.cause self.new text) }
     {
-        // Nothing is done here; the proof of Output begins with what every world keeps.
+        // No code is needed; the proof of Output begins with what every world keeps.
         let _ = &self.shown;
         for (at, event) in events.iter().enumerate() {
             match self.happen(event) {
@@ -217,7 +223,7 @@ impl World {
         self.take_first()
     }
 
-    // The job finds none that waits, which the server may have to say.
+    // Lets the job find no entry that waits, for which the server may have to send GA.
     fn take_none(&mut self) -> Result<(), Cause>
         requires { self.old.server.terminal.entries ≡ [] }
         ensures ok { OnOk result (RunsEvent self.old event.Take self.new) }
@@ -227,7 +233,7 @@ impl World {
         Ok(())
     }
 
-    // The job takes the first that waits.
+    // Lets the job take the first entry that waits.
     fn take_first(&mut self) -> Result<(), Cause>
         requires { self.old.server.terminal.entries ≢ [] }
         ensures ok { OnOk result (RunsEvent self.old event.Take self.new) }
@@ -307,7 +313,7 @@ impl World {
     }
 }
 
-// Takes the first bytes out of a flight, or all where there are fewer.
+// Takes the first bytes out of a flight, or all if there are fewer.
 fn take_front(alloc: Global, flight: &mut Vec<u8>, count: usize) -> Result<Vec<u8>, AllocError>
     ensures piece { IfOk result (λ piece. piece.items ≡ take count flight.old.items) }
     ensures left { OnOk result (flight.new.items ≡ drop count flight.old.items) }

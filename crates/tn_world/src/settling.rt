@@ -1,4 +1,4 @@
-//! How a world comes to rest.
+//! The way in which a world comes to rest.
 
 ghost use Rattle.std.specs.Prelude.{◌≡◌, ◌↔◌, ◌≤◌, ℕ, IsTrue, IsFalse, List, OnOk, IfErr, length};
 ghost use Rattle.tn_discipline.specs.Canon.{Canon};
@@ -11,9 +11,13 @@ use crate::world::World;
 use tn_linemode::laws::exchanges_end;
 
 impl World {
-    /// Delivers all that is in flight to the client and then all to the server, until nothing is in flight:
-    /// in two rounds at most, whatever happened before, where neither end was stopped. A refused delivery is
-    /// counted from 0, and those before it are done.
+    /// Delivers all that is in flight to the client and then all to the server, until nothing is in
+    /// flight: in at most two rounds, after any events, if neither end was stopped.
+    ///
+    /// # Errors
+    ///
+    /// - `Server`, `Client` or `Memory`, as for `run`: a delivery was refused. The fault counts it
+    ///   from 0, and those before it are done.
     pub fn settle(&mut self) -> Result<(), WorldFault>
         ensures settles { OnOk result (Settles self.old self.new) }
         ensures rest { OnOk result (IsAtRest self.old self.new) }
@@ -26,7 +30,7 @@ impl World {
         ensures output_before { IfErr result (λ fault. (text : List ℕ) → IsOutput self.old text →
             IsFalse self.old.client.failed → OutputStopsSettling self.old fault.cause self.new text) }
     {
-        // Nothing is done here; the proof begins with what every world keeps.
+        // No code is needed; the proof begins with what every world keeps.
         let _ = &self.shown;
         exchanges_end();
         if self.is_flight_empty() {
@@ -48,7 +52,7 @@ impl World {
         }
     }
 
-    // Whether nothing is in flight to either end.
+    // Returns whether nothing is in flight to either end.
     pub(crate) fn is_flight_empty(&self) -> bool
         ensures { IsTrue result ↔ NothingInFlight self.now }
     {

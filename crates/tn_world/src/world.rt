@@ -69,8 +69,12 @@ impl Model for World {
 
 impl World {
     /// Opens a world: both ends are started, the client's window with this width and height in
-    /// characters, lines at both with at most `limit` bytes, and the server's opening words are in
-    /// flight.
+    /// characters, lines at both with at most `limit` bytes, and the server's opening messages are
+    /// in flight.
+    ///
+    /// # Errors
+    ///
+    /// - There is no memory; the fault is that of the end or of the world that lacks it.
     pub fn open(
         alloc: Global,
         settings: Settings,
@@ -109,8 +113,9 @@ impl World {
         })
     }
 
-    /// Whether all is at rest: nothing is in flight and nobody has stopped, the ends agree, and no
-    /// line is half typed. Where it is, the lists of typed keys and taken entries are reset.
+    /// Returns whether all is at rest: nothing is in flight and neither end was stopped, the ends
+    /// agree, and no line is half typed. If it is, the lists of typed keys and taken entries are
+    /// reset.
     pub fn mark(&mut self) -> bool
         ensures settled { IsTrue result ↔ IsSettled self.old }
         ensures reset { IsTrue result → self.new ≡ with_new_lists self.old }
@@ -125,42 +130,42 @@ impl World {
         true
     }
 
-    /// The keys that were typed since the last mark.
+    /// Returns the keys that were typed since the last mark.
     pub fn typed(&self) -> &[u8]
         ensures { result.now ≡ self.now.typed }
     {
         self.typed.as_slice()
     }
 
-    /// The entries that jobs took since the last mark.
+    /// Returns the entries that jobs took since the last mark.
     pub fn taken(&self) -> &[Entry]
         ensures { result.now ≡ self.now.taken }
     {
         self.taken.as_slice()
     }
 
-    /// An entry that waits for a job, by its place from the first on.
+    /// Returns an entry that waits for a job, counted from the first, which is 0.
     pub fn waiting(&self, index: usize) -> Option<&Entry>
         ensures { option_copied result ≡ slice_get self.now.server.terminal.entries index }
     {
         self.server.waiting(index)
     }
 
-    /// The server's text on the client's screen.
+    /// Returns the server's text on the client's screen.
     pub fn shown(&self) -> &[u8]
         ensures { result.now ≡ self.now.shown }
     {
         self.shown.as_slice()
     }
 
-    /// What the client echoed on its screen.
+    /// Returns the bytes that the client echoed on its screen.
     pub fn echoed(&self) -> &[u8]
         ensures { result.now ≡ self.now.echoed }
     {
         self.echoed.as_slice()
     }
 
-    /// The bytes that are on their way to an end.
+    /// Returns the bytes that are on their way to an end.
     pub fn in_flight(&self, whom: ToWhom) -> &[u8]
         ensures server { whom ≡ to.Server → result.now ≡ self.now.to_server }
         ensures client { whom ≡ to.Client → result.now ≡ self.now.to_client }

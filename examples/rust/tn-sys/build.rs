@@ -1,4 +1,4 @@
-//! Links libtn: from the folder that TN_LIB_DIR names, or from where pkg-config knows it.
+//! Links libtn: from the folder that TN_LIB_DIR names, or from the one that pkg-config names.
 use std::process::Command;
 
 fn main() {

@@ -63,7 +63,7 @@ never_unknown (Err (client_fault.Char char.NotSettable)) answer is = (λ e. cc, 
 never_unknown (Err (client_fault.Char char.Reserved)) answer is = (λ e. cc, λ e. cc)
 never_unknown (Err (client_fault.Char char.Taken)) answer is = (λ e. cc, λ e. cc)
 
--- what is known of a call by what it answered, is known by its code
+-- a fact of a call that follows from its answer follows from its code
 pub when_done : {T P : Type 0} (r : Result T ClientFault) (answer : Code) → answer ≡ client_answer r → OnOk r P → answer ≡ code.Done → P
 when_done (Ok x) answer is p done = p
 when_done (Err f) answer is p done = absurd (never_done f (sym is ∙ done))
@@ -77,7 +77,7 @@ pub for_fault : {T P : Type 0} (fault : ClientFault) (r : Result T ClientFault) 
 for_fault fault (Ok x) answer is p e = absurd (never_done fault (sym e ∙ is))
 for_fault fault (Err f) answer is p e = p (ap Err (sym (fault_of-code f) ∙ ap fault_of (sym is ∙ e) ∙ fault_of-code fault))
 
--- it was done, or refused for its cause
+-- a call was done, having no cause to be refused, or was refused for its cause
 pub as_caused : {T : Type 0} (cause : Option ClientFault) (r : Result T ClientFault) (answer : Code) → answer ≡ client_answer r → answers.AnswersBy cause r
     → (answer ≡ code.Done → cause ≡ None) × ((answer ≡ code.Done) ⊎ (answer ≡ client_refusal cause))
 as_caused cause (Ok x) answer is caused = (λ _. caused, inl is)
@@ -99,7 +99,7 @@ call_acts e cause r answer before after is step out caused err shown =
       err = λ refused. let same = unless_done r answer is err refused in record { end = same.end; pending = same.out; shown = shown refused };
     }
 
--- a key that is refused says nothing
+-- a key that is refused sends nothing
 key_says_nothing : {T : Type 0} (r : Result T ClientFault) (old new : client.End) (before after seen now : List ℕ)
     → OnErr r (answers.Untouched old before after seen now new) → OnErr r (answers.SaysNothing old before after new)
 key_says_nothing (Ok x) old new before after seen now same = tt
@@ -132,12 +132,12 @@ pub same_mask : (m n : Mask) → m.0 ≡ n.0 → m ≡ n
 unfolding octets_mask
 same_mask m n e = ap octets_mask e
 
--- what a call says of a mask it says of its octets
+-- a call that holds of a mask holds of its octets
 pub octets_told : {answer : Code} {before after : HeldServer} (m n : Mask) → m.0 ≡ n.0 → SetMaskCall (Some m) answer before after
     → SetMaskCall (Some n) answer before after
 octets_told {answer} {before} {after} m n e told = subst (λ (mask : Mask). SetMaskCall (Some mask) answer before after) (same_mask m n e) told
 
--- of two codes it is the first
+-- a code that is the first of two or the second, and not the second, is the first
 pub is_done : {answer : Code} → (answer ≡ code.Done) ⊎ (answer ≡ code.NoFunction) → (answer ≡ code.NoFunction → ⊥) → answer ≡ code.Done
 is_done (inl done) other = done
 is_done (inr none) other = absurd (other none)
@@ -146,7 +146,7 @@ is_done (inr none) other = absurd (other none)
 pub same_command : (c d : UserCommand) → Some c ≡ Some d → c ≡ d
 same_command c d e = cc
 
--- it was not both
+-- no call was both done and refused for want of memory
 pub not_memory : code.Done ≡ code.Memory → ⊥
 not_memory e = cc
 

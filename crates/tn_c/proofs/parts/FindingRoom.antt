@@ -1,4 +1,4 @@
--- What is fed in such pieces makes no more entries than may wait.
+-- Pieces of this length make no more entries than may wait.
 use Rattle.std.proofs.{Common.{◌≡◌, ◌≢◌, inl, inr, ℕ, ◌<◌, ◌≤◌, Bool, true, false, if◌then◌else◌, List, length, refl, sym, ◌∙◌, arith}, lemmas.List.length-take}
 use Rattle.std.specs.Prelude.{All, min, take}
 use Rattle.tn_discipline.specs.declared.characters.CharFault.TheVariants as char

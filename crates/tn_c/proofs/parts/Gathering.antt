@@ -1,4 +1,4 @@
--- What waits gains the items of a piece, and nothing that is discarded is refused.
+-- The items that wait gain those of a piece, and no discarded byte is refused.
 use Rattle.std.proofs.Common.{◌≡◌, inl, inr, ℕ, ◌<◌, Option, Result, Ok, Err, OnOk, OnErr, IsErrOf, List, [], ◌∷◌, ◌++◌, length, refl, sym, ap, subst, ◌∙◌}
 use Rattle.std.proofs.{Common.{append_assoc, append-nil, arith}, lemmas.List.length-map}
 use Rattle.std.specs.Prelude.{◌↔◌, map}

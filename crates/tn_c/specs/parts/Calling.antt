@@ -1,4 +1,5 @@
--- What any call says of what is held: R code before after, of its code and of what was held before and after.
+-- The statement of any call on its content: R code before after, of its code and of the content before and
+-- after.
 use Rattle.std.specs.Prelude.{◌≡◌, ◌≢◌, ◌↔◌, ℕ}
 use Rattle.tn_codes.specs.{Codes.func_code, declared.codes.Func.Func}
 use Rattle.tn_c.specs.declared.parts.codes.Code.{Code}

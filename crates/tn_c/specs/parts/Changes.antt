@@ -1,4 +1,4 @@
--- What a client changes of a server end, and the bits that say what is otherwise.
+-- The facts of a server end that its client changes, and the bits for those that differ.
 use Rattle.std.specs.Prelude.{◌≡◌, ◌≢◌, ◌⊎◌, ◌↔◌, ℕ, ◌+◌, Bool, true, false, IsTrue, List, [], ◌∷◌}
 use Rattle.tn_codes.specs.OptionCodes as option_code
 use Rattle.tn_discipline.specs.Characters.{Characters}
@@ -7,7 +7,7 @@ use Rattle.tn_server.specs.{Calls.LeadsTo, Events.History, Screen.size, Terms.{c
 use Rattle.tn_c.specs.{parts.Readings.{char_number, state_number}, declared.parts.changes.Seen.Seen}
 use Rattle.tn_c.specs.declared.parts.server.HeldServer.{HeldServer}
 
--- where the sides of options stand that a server end agrees to
+-- the states of the sides of options to which a server end agrees
 abbrev pub states_seen : Options → List ℕ
 states_seen o =
     state_number (state_of o Us option_code.echo)
@@ -17,12 +17,13 @@ states_seen o =
     ∷ state_number (state_of o Them option_code.linemode)
     ∷ []
 
+-- the special characters, in the numbers of `tn.h`
 abbrev pub chars_seen : Characters → List ℕ
 chars_seen c =
     char_number c.intr ∷ char_number c.quit ∷ char_number c.eof ∷ char_number c.susp
     ∷ char_number c.erase ∷ char_number c.kill ∷ char_number c.eol ∷ char_number c.eol2 ∷ []
 
--- this is what an end has after this history
+-- the facts that an end has after this history
 pub record IsSeen (h : History) (seen : Seen) : Type 0 where
   pub size : (seen.width, seen.height) ≡ size h
   pub mode : seen.mode ≡ mode h
@@ -34,7 +35,7 @@ abbrev pub bit : Bool → ℕ → ℕ
 bit true value = value
 bit false value = 0
 
--- The bits say what is otherwise.
+-- The bits show all that differs.
 pub record TellsChanges (bits : ℕ) (old new : Seen) : Type 0 where
   pub size : Bool
   pub mode : Bool
@@ -46,7 +47,7 @@ pub record TellsChanges (bits : ℕ) (old new : Seen) : Type 0 where
   pub options_is : IsTrue options ↔ (new.options ≢ old.options)
   pub chars_is : IsTrue chars ↔ (new.chars ≢ old.chars)
 
--- The bits say what is otherwise than it was seen, and what the end has now was seen.
+-- The bits show all that differs from the facts that were seen, and the present facts of the end are seen.
 pub record ChangesCall (bits : ℕ) (before after : HeldServer) : Type 0 where
   pub tells : TellsChanges bits before.seen after.seen
   pub seen : (h : History) → LeadsTo h before.end → IsSeen h after.seen

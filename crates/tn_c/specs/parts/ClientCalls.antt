@@ -1,4 +1,4 @@
--- What each call of a held client end does.
+-- The effect of each call of a held client end.
 use Rattle.std.specs.Prelude.{◌≡◌, ◌≢◌, ◌↔◌, ◌⊎◌, ℕ, Bool, true, IsTrue, false, IsFalse, List, [], ◌++◌, drop}
 use Rattle.std.specs.Prelude.{Option, None}
 use Rattle.tn_codes.specs.declared.codes.Func.{Func}
@@ -32,6 +32,7 @@ pub record Acts (e : Event) (cause : End → Option ClientFault) (answer : Code)
   pub refused : (answer ≡ code.Done) ⊎ (answer ≡ client_refusal (cause before.end))
   pub err : answer ≢ code.Done → Untouched before after
 
+-- The call types a key.
 pub record KeyCall (key : ℕ) (answer : Code) (before after : HeldClient) : Type 0 where
   pub acts : Acts (typed key) call_fault answer before after
   pub shows : answer ≡ code.Done → after.shown.items ≡ before.shown.items ++ shows_key before.end key
@@ -43,11 +44,13 @@ pub record NewLineCall (answer : Code) (before after : HeldClient) : Type 0 wher
   pub shows : answer ≡ code.Done → after.shown.items ≡ before.shown.items ++ shows_key before.end lf
   pub memory : answer ≡ code.Memory → LacksMemoryToEnter before.end before.pending before.shown
 
+-- The call takes a new size of the window.
 pub record ResizeCall (width height : ℕ) (answer : Code) (before after : HeldClient) : Type 0 where
   pub acts : Acts (resized width height) call_fault answer before after
   pub memory : answer ≡ code.Memory → LacksRoomFor before.end (resized width height) before.pending
   pub shown : after.shown.items ≡ before.shown.items
 
+-- The call proposes a special character.
 pub record ProposeCall (value : Option ℕ) (func : Func) (answer : Code) (before after : HeldClient)
     : Type 0 where
   pub acts : Acts (proposed func value) (λ end. propose_fault end func value) answer before after
@@ -60,12 +63,13 @@ pub record SendCall (command : UserCommand) (answer : Code) (before after : Held
   pub memory : answer ≡ code.Memory → LacksRoomFor before.end (sent command) before.pending
   pub shown : after.shown.items ≡ before.shown.items
 
--- The same of the command with this number, if a user sends one.
+-- The effect of a call that sends the command with this number, if a user sends one.
 pub record SendNumberCall (number : ℕ) (answer : Code) (before after : HeldClient) : Type 0 where
   pub known : (command : UserCommand) → command_number command ≡ number → SendCall command answer before after
   pub unknown : (answer ≡ code.NoCommand) ↔ ((command : UserCommand) → command_number command ≢ number)
   pub stays : answer ≡ code.NoCommand → after ≡ before
 
+-- The call takes a piece of the server's stream.
 pub record FeedCall (piece : List ℕ) (answer : Code) (before after : HeldClient) : Type 0 where
   pub feeds : answer ≡ code.Done → Feeds before.end piece
       before.pending.items after.pending.items before.shown.items after.shown.items after.end
@@ -90,35 +94,40 @@ pub record ScreenCall (old_buf new_buf : List ℕ) (count : ℕ) (before after :
   pub end : after.end ≡ before.end
   pub pending : after.pending.items ≡ before.pending.items
 
--- What a look at a client end gives stands in the end, and is what its history has.
+-- The result of a look at a client end stands in the end, and is that of its history.
 pub record GivesHalf (old_buf new_buf : List ℕ) (whole : ℕ) (held : HeldClient) : Type 0 where
   pub value : Gives held.end.line.held old_buf new_buf whole
   pub stands : (h : History) → LeadsTo h held.end → Gives (held_bytes h) old_buf new_buf whole
 
+-- The call gives the two counts of the half-typed line that the server edits.
 pub record GivesCounts (trapped plain : ℕ) (held : HeldClient) : Type 0 where
   pub trapped_value : trapped ≡ held.end.trapped
   pub plain_value : plain ≡ held.end.plain
   pub trapped_stands : (h : History) → LeadsTo h held.end → trapped ≡ count_under true h
   pub plain_stands : (h : History) → LeadsTo h held.end → plain ≡ count_under false h
 
+-- The call gives the number of bytes that were sent ahead.
 pub record GivesAhead (count : ℕ) (held : HeldClient) : Type 0 where
   pub value : count ≡ held.end.line.ahead
   pub stands : (h : History) → LeadsTo h held.end → count ≡ ahead h
 
+-- The call gives the mask in force.
 pub record GivesMode (mask : ℕ) (held : HeldClient) : Type 0 where
   pub value : mask ≡ held.end.mode
   pub stands : (h : History) → LeadsTo h held.end → mask ≡ mode h
 
+-- The call gives the state of a side of an option.
 pub record GivesOption (ours : Bool) (option state : ℕ) (held : HeldClient) : Type 0 where
   pub value : state ≡ state_number (state_of held.end.options (side_given ours) option)
   pub stands : (h : History) → LeadsTo h held.end
       → state ≡ state_number (state_of (options h) (side_given ours) option)
 
+-- The number is that of a special character of the client.
 pub record IsClientChar (held : HeldClient) (func : Func) (value : ℕ) : Type 0 where
   pub value_is : value ≡ char_number (slot held.end.table func)
   pub stands : (h : History) → LeadsTo h held.end → value ≡ char_number (slot (chars h) func)
 
--- It was just opened, and nothing waits.
+-- The client end was just opened, and nothing waits.
 pub record IsOpened (width height limit : ℕ) (held : HeldClient) : Type 0 where
   pub leads : LeadsTo (begun width height limit) held.end
   pub reads : nvt.LeadsTo [] [] held.end.decoder

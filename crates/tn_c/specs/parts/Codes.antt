@@ -3,6 +3,7 @@ use Rattle.std.specs.Prelude.{◌≡◌, ℕ}
 use Rattle.tn_c.specs.declared.parts.codes.Code.{Code}
 use Rattle.tn_c.specs.declared.parts.codes.Code.TheVariants as code
 
+-- the number of a code, as `tn.h` has it
 abbrev pub code_number : Code → ℕ
 code_number code.Done = 0
 code_number code.Memory = 1

@@ -1,4 +1,4 @@
--- What each call of a held decoder does.
+-- The effect of each call of a held decoder.
 use Rattle.std.specs.Prelude.{◌≡◌, ◌≢◌, ◌↔◌, ◌⊎◌, ◌<◌, ℕ, List, [], ◌∷◌, ◌++◌, length, map, take, drop, None, MatchOption}
 use Rattle.tn_nvt.specs.{Feeding.{LeadsTo, failed, Feeds, IsLetGo}, Sinks.{StopsAtSink, StopsForMemory}}
 use Rattle.tn_nvt.specs.declared.items.Item.TheVariants.{Byte}
@@ -6,6 +6,7 @@ use Rattle.tn_c.specs.parts.{Items.{ReadStream, item_seen}, Waiting.{AddsItems, 
 use Rattle.tn_c.specs.declared.parts.{codes.Code.Code, decoder.ItemSeen.ItemSeen}
 use Rattle.tn_c.specs.declared.parts.codes.Code.TheVariants as code
 
+-- The call reads a piece.
 pub record FeedCall (piece : List ℕ) (answer : Code) (before after : ReadStream) : Type 0 where
   pub codes : (answer ≡ code.Done) ⊎ ((answer ≡ code.Memory) ⊎ (answer ≡ code.Failed))
   pub ok : answer ≡ code.Done → Feeds before.decoder piece before.waiting after.waiting after.decoder
@@ -18,6 +19,7 @@ pub record FeedCall (piece : List ℕ) (answer : Code) (before after : ReadStrea
   pub failed_waiting : answer ≡ code.Failed → after.waiting ≡ before.waiting
   pub item : after.item ≡ before.item
 
+-- The call takes the first item that waits.
 pub record TakeCall (seen : ItemSeen) (before after : ReadStream) : Type 0 where
   pub decoder : after.decoder ≡ before.decoder
   pub item : MatchOption after.item (before.waiting ≡ []) (λ first. before.waiting ≡ first ∷ after.waiting)
@@ -32,7 +34,7 @@ pub record TakeRunCall (old_buf new_buf : List ℕ) (count : ℕ) (before after 
   pub decoder : after.decoder ≡ before.decoder
   pub item : after.item ≡ before.item
 
--- It has read nothing.
+-- The decoder has read nothing.
 pub record IsFresh (held : ReadStream) : Type 0 where
   pub decoder : LeadsTo [] [] held.decoder
   pub waiting : held.waiting ≡ []

@@ -1,15 +1,16 @@
--- What a terminal shows of a key, as bytes for a screen that moves to the next line by CR LF.
+-- The echo of a key, as bytes for a screen that moves to the next line by CR LF.
 use Rattle.std.specs.Prelude.{◌≡◌, ◌⊎◌, ℕ, Option, Some, None, List, [], ◌∷◌, ◌++◌}
 use Rattle.tn_discipline.specs.declared.echo.Symbol.{Symbol, TheVariants.{Byte, Newline}}
 use Rattle.tn_c.specs.{parts.{Bytes.Gives, Spelled.{Room, IsLeft}}, declared.parts.codes.Code.Code}
 use Rattle.tn_c.specs.declared.parts.codes.Code.TheVariants as code
 
+-- the bytes that show a symbol, if there is one
 abbrev pub symbol_bytes : Option Symbol → List ℕ
 symbol_bytes None = []
 symbol_bytes (Some (Byte byte)) = byte ∷ []
 symbol_bytes (Some Newline) = 13 ∷ 10 ∷ []
 
--- of the at most three symbols of a key
+-- the bytes that show a key, of its at most three symbols
 abbrev pub echo_bytes : List (Option Symbol) → List ℕ
 echo_bytes (a ∷ b ∷ c ∷ []) = (symbol_bytes a ++ symbol_bytes b) ++ symbol_bytes c
 echo_bytes _ = []

@@ -5,26 +5,29 @@ use Rattle.tn_discipline.specs.declared.half_line.Effect.{Effect}
 use Rattle.tn_discipline.specs.declared.reads.Entry.TheVariants as entry
 use Rattle.tn_discipline.specs.declared.half_line.Effect.TheVariants as effect
 
+-- the number of a signal
 abbrev pub sig_number : Sig → ℕ
 sig_number Int = 3
 sig_number Quit = 4
 sig_number Tstp = 5
 
+-- the number of an entry's kind
 abbrev pub entry_number : Entry → ℕ
 entry_number (entry.Text text) = 1
 entry_number entry.Eof = 2
 entry_number (entry.Signal sig) = sig_number sig
 
--- 0 where there is none
+-- the number of an entry's kind, 0 if there is none
 abbrev pub kind_number : Option Entry → ℕ
 kind_number None = 0
 kind_number (Some e) = entry_number e
 
--- 0 where there is none
+-- the number of a signal, 0 if there is none
 abbrev pub signal_number : Option Sig → ℕ
 signal_number None = 0
 signal_number (Some sig) = sig_number sig
 
+-- the number of a key's effect
 abbrev pub effect_number : Effect → ℕ
 effect_number effect.Nothing = 0
 effect_number (effect.Gives e) = entry_number e

@@ -1,4 +1,4 @@
--- What C sees of an item, and a decoder with the items that wait.
+-- An item as C sees it, and a decoder with the items that wait.
 use Rattle.std.specs.Prelude.{ℕ, Option, Some, None, List, [], length}
 use Rattle.tn_codes.specs.Codes.{command_code, verb_code}
 use Rattle.tn_nvt.specs.{Feeding.DecoderState, declared.items.Item.Item}
@@ -11,7 +11,7 @@ pub record ReadStream : Type 0 where
   pub waiting : List Item
   pub item : Option Item
 
--- 0 where there is none
+-- an item as C sees it, of kind 0 if there is none
 abbrev pub item_seen : Option Item → ItemSeen
 item_seen None = record { kind = 0; code = 0; option = 0; length = 0 }
 item_seen (Some (Byte byte)) = record { kind = 1; code = byte; option = 0; length = 0 }

@@ -1,4 +1,4 @@
--- What each call of a held line does.
+-- The effect of each call of a held line.
 use Rattle.std.specs.Prelude.{◌≡◌, ◌≢◌, ◌⊎◌, ◌<◌, ℕ, List, [], ◌∷◌, Option, None}
 use Rattle.tn_codes.specs.declared.codes.Func.{Func}
 use Rattle.tn_discipline.specs.{Advancing.{Advances, DropsExactly}, declared.termios.Flags.Flags}
@@ -9,6 +9,7 @@ use Rattle.tn_c.specs.parts.{Bytes.Gives, Entries.{effect_number, entry_given}, 
 use Rattle.tn_c.specs.{parts.Readings.char_number, declared.parts.{codes.Code.Code, line.HeldLine.HeldLine}}
 use Rattle.tn_c.specs.declared.parts.codes.Code.TheVariants as code
 
+-- The call types a key.
 pub record KeyCall (key old_effect new_effect : ℕ) (answer : Code) (before after : HeldLine) : Type 0 where
   pub codes : (answer ≡ code.Done) ⊎ (answer ≡ code.Memory)
   pub advances : answer ≡ code.Done → Advances before.line (roles_of before.settings (key ∷ []))
@@ -27,20 +28,23 @@ pub record KeyCall (key old_effect new_effect : ℕ) (answer : Code) (before aft
   pub err : answer ≡ code.Memory → after ≡ before
   pub err_effect : answer ≡ code.Memory → new_effect ≡ old_effect
 
+-- The call gives the half-typed line.
 pub record HalfGiven (old_buf new_buf : List ℕ) (whole : ℕ) (held : HeldLine) : Type 0 where
   pub gives : Gives held.line.held old_buf new_buf whole
   pub within : line_length held.line < held.line.limit
 
--- What was typed is as it was.
+-- The typed bytes are as they were.
 pub record KeepsTyped (before after : HeldLine) : Type 0 where
   pub line : after.line ≡ before.line
   pub entry : after.entry ≡ before.entry
   pub echo : after.echo ≡ before.echo
 
+-- The call sets the flags.
 pub record SetFlagsCall (flags : Flags) (before after : HeldLine) : Type 0 where
   pub settings : after.settings ≡ record { flags = flags; chars = before.settings.chars }
   pub keeps : KeepsTyped before after
 
+-- The call changes a special character.
 pub record SetCharCall (value : Option ℕ) (func : Func) (answer : Code) (before after : HeldLine)
     : Type 0 where
   pub ok : answer ≡ code.Done → after.settings.chars ≡ with_slot before.settings.chars func value
@@ -50,11 +54,12 @@ pub record SetCharCall (value : Option ℕ) (func : Func) (answer : Code) (befor
   pub flags : after.settings.flags ≡ before.settings.flags
   pub keeps : KeepsTyped before after
 
+-- The number is that of a special character of the line.
 pub record IsLineChar (held : HeldLine) (func : Func) (value : ℕ) : Type 0 where
   pub value_is : value ≡ char_number (slot held.settings.chars func)
   pub allowed : AreAllowed held.settings.chars
 
--- It was just begun.
+-- The line was just begun.
 pub record IsEmpty (flags : Flags) (limit : ℕ) (held : HeldLine) : Type 0 where
   pub line : held.line ≡ empty_line limit
   pub settings : held.settings ≡ record { flags = flags; chars = standard_characters }

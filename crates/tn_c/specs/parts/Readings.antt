@@ -1,4 +1,4 @@
--- The numbers of what an end tells of itself.
+-- The numbers of the facts that an end reports of itself.
 use Rattle.std.specs.Prelude.{ℕ, Bool, true, false, Option, Some, None, nat_lt, if◌then◌else◌}
 use Rattle.tn_client.specs.{Replies.command_sent, declared.commands.UserCommand.UserCommand}
 use Rattle.tn_codes.specs.Codes.{command_code}
@@ -11,7 +11,7 @@ abbrev pub side_given : Bool → Side
 side_given true = Us
 side_given false = Them
 
--- where C wishes for lines to be edited: at the client, or at the server
+-- the side at which C requests that lines be edited: at the client, or at the server
 abbrev pub editing_given : Bool → Editing
 editing_given true = Local
 editing_given false = Remote
@@ -33,6 +33,7 @@ char_given value = if nat_lt value no_char then Some value else None
 abbrev pub command_number : UserCommand → ℕ
 command_number command = command_code (command_sent command)
 
+-- the number of the state of a side of an option
 abbrev pub state_number : QState → ℕ
 state_number state.No = 0
 state_number state.Yes = 1

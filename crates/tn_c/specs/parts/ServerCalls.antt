@@ -1,4 +1,4 @@
--- What each call of a held server end does.
+-- The effect of each call of a held server end.
 use Rattle.std.specs.Prelude.{◌≡◌, ◌≢◌, ◌↔◌, ◌⊎◌, ◌*◌, ◌<◌, ◌≤◌, ℕ, Bool, IsTrue, IsFalse, List, [], ◌∷◌}
 use Rattle.std.specs.Prelude.{◌++◌, length, min, take, drop, Option, Some, None, MatchOption, if◌then◌else◌}
 use Rattle.std.specs.Vec.{vec_ptr}
@@ -37,15 +37,18 @@ pub record Acts (e : Event) (cause : End → Option ServerFault) (answer : Code)
   pub entry : after.entry ≡ before.entry
   pub seen : after.seen ≡ before.seen
 
+-- The call requests that one side edit lines.
 pub record WishCall (editing : Editing) (old_sent new_sent : Bool) (answer : Code)
     (before after : HeldServer) : Type 0 where
   pub acts : Acts (wished editing) call_fault answer before after
   pub sent : answer ≡ code.Done → new_sent ≡ sends_mode_now before.end editing
   pub unsent : answer ≢ code.Done → new_sent ≡ old_sent
 
+-- the call changes a special character
 abbrev pub SetCharCall : Option ℕ → Func → Code → HeldServer → HeldServer → Type 0
 SetCharCall value func = Acts (char_set func value) (λ end. char_fault_at end func value)
 
+-- the call asks for a forward mask, or for none
 abbrev pub SetMaskCall : Option Mask → Code → HeldServer → HeldServer → Type 0
 SetMaskCall mask = Acts (mask_set mask) mask_fault
 
@@ -56,6 +59,7 @@ pub record SetOctetsCall (octets : List ℕ) (answer : Code) (before after : Hel
   pub long : (answer ≡ code.TooLong) ↔ (32 < length octets)
   pub stays : answer ≡ code.TooLong → after ≡ before
 
+-- The call takes a piece of the client's stream.
 pub record FeedCall (piece : List ℕ) (answer : Code) (before after : HeldServer) : Type 0 where
   pub ok : answer ≡ code.Done → Feeds before.end piece before.pending.items after.pending.items after.end
   pub accepted : answer ≡ code.Done → call_fault before.end ≡ None
@@ -71,10 +75,12 @@ pub record FeedCall (piece : List ℕ) (answer : Code) (before after : HeldServe
   pub entry : after.entry ≡ before.entry
   pub seen : after.seen ≡ before.seen
 
--- how many entries may wait before a piece that finds room for each entry it makes, and how long that is
+-- the most entries that may wait before a piece that finds room for each entry it makes, and the length of
+-- that piece
 abbrev pub most_before : ℕ
 most_before = 511
 
+-- the most bytes that one call of `feed_some` takes
 abbrev pub most_taken : ℕ
 most_taken = 512
 
@@ -94,11 +100,13 @@ pub record TakesFirst (bytes : List ℕ) (old_taken new_taken : ℕ) (answer : C
   pub taken : answer ≡ code.Done → new_taken ≡ min (length bytes) most_taken
   pub untaken : answer ≢ code.Done → new_taken ≡ old_taken
 
+-- the call takes the first bytes of a piece, or none
 abbrev pub FeedSomeCall : List ℕ → ℕ → ℕ → Code → HeldServer → HeldServer → Type 0
 FeedSomeCall bytes old_taken new_taken answer before after =
     TakesNone old_taken new_taken answer before after
     ⊎ TakesFirst bytes old_taken new_taken answer before after
 
+-- The call takes the first entry that waits.
 pub record TakeCall (old_kind new_kind : ℕ) (answer : Code) (before after : HeldServer) : Type 0 where
   pub codes : (answer ≡ code.Done) ⊎ (answer ≡ code.Memory)
   pub step : answer ≡ code.Done → after.end ≡ end_after before.end took
@@ -112,6 +120,7 @@ pub record TakeCall (old_kind new_kind : ℕ) (answer : Code) (before after : He
   pub grows : answer ≡ code.Memory → says before.end took ≢ []
   pub full : answer ≡ code.Memory → LacksRoomFor before.end took before.pending
 
+-- The call writes output of a job.
 pub record WriteCall (bytes : List ℕ) (count : ℕ) (before after : HeldServer) : Type 0 where
   pub step : after.end ≡ end_after_write before.end bytes
   pub counts : count ≡ fitting_count before.end.terminal.queue bytes
@@ -119,6 +128,7 @@ pub record WriteCall (bytes : List ℕ) (count : ℕ) (before after : HeldServer
   pub entry : after.entry ≡ before.entry
   pub seen : after.seen ≡ before.seen
 
+-- The call spells symbols of the screen.
 pub record PullCall (max old_count new_count : ℕ) (answer : Code) (before after : HeldServer) : Type 0 where
   pub codes : (answer ≡ code.Done) ⊎ (answer ≡ code.Memory)
   pub step : answer ≡ code.Done → after.end ≡ end_after_pull before.end new_count
@@ -140,12 +150,12 @@ pub record SayCall (bytes : List ℕ) (count : ℕ) (answer : Code) (before afte
   pub writes : WriteCall bytes count before middle
   pub pulls : PullCall queue_symbols 0 symbols answer middle after
 
--- where the bytes that wait to be sent stand, and how many they are
+-- the place of the bytes that wait to be sent, and their number
 pub record GivesPending (at : Ptr) (count : ℕ) (held : HeldServer) : Type 0 where
   pub place : at ≡ vec_ptr held.pending
   pub counts : count ≡ length held.pending.items
 
--- the first of the bytes that waited to be sent, at most so many, wait no more
+-- the first of the bytes that waited to be sent, at most this number, wait no more
 pub record SentCall (count : ℕ) (before after : HeldServer) : Type 0 where
   pub stay : after.pending.items ≡ drop count before.pending.items
   pub end : after.end ≡ before.end
@@ -167,11 +177,12 @@ pub record ForgetCall (before after : HeldServer) : Type 0 where
   pub entry : after.entry ≡ wiped_entry before.entry
   pub seen : after.seen ≡ before.seen
 
+-- the number is that of a special character of the server
 abbrev pub IsServerChar : HeldServer → Func → ℕ → Type 0
 IsServerChar server func value =
     (h : History) → LeadsTo h server.end → value ≡ char_number (slot (chars h) func)
 
--- It was just opened, and its opening words wait.
+-- The server end was just opened, and its opening messages wait.
 pub record IsOpened (canon : Canon) (held : HeldServer) : Type 0 where
   pub leads : LeadsTo (begun canon) held.end
   pub reads : nvt.LeadsTo [] [] held.end.decoder

@@ -2,6 +2,7 @@
 use Rattle.tn_discipline.specs.declared.termios.Flags.{Flags}
 use Rattle.tn_c.specs.declared.parts.flags.TerminalFlags.{TerminalFlags}
 
+-- the flags that C gives, as those of a terminal
 abbrev pub flags_given : TerminalFlags → Flags
 flags_given f =
     record {

@@ -9,7 +9,7 @@ woven bytes [] = []
 woven bytes (Run count ∷ parts) = map Byte (take count bytes) ++ woven (drop count bytes) parts
 woven bytes (One item ∷ parts) = item ∷ woven bytes parts
 
--- how many bytes the runs have
+-- the number of bytes in the runs
 abbrev pub run_bytes : List Part → ℕ
 run_bytes [] = 0
 run_bytes (Run count ∷ parts) = count + run_bytes parts
@@ -20,7 +20,7 @@ abbrev pub items_in : ℕ → ℕ → List ℕ → List Part → List Item
 items_in from left bytes parts =
     map Byte (take left (drop from bytes)) ++ woven (drop left (drop from bytes)) parts
 
--- it is no byte of data
+-- the item is no byte of data
 abbrev pub IsOther : Item → Type 0
 IsOther (Byte byte) = ⊥
 IsOther Newline = Unit {0}
@@ -38,6 +38,7 @@ pub record IsWhole (from left : ℕ) (bytes : List ℕ) (parts : List Part) : Ty
   pub counts : from + (left + run_bytes parts) ≡ length bytes
   pub filled : All IsFilled parts
 
+-- a run is the first part
 abbrev pub StartsWithRun : List Part → Type 0
 StartsWithRun [] = ⊥
 StartsWithRun (Run count ∷ parts) = Unit {0}

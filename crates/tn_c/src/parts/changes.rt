@@ -1,4 +1,5 @@
-//! What a client changes of a server end: its window's size, the mode, options and special characters.
+//! The facts of a server end that its client changes: its window's size, the mode, options and
+//! special characters.
 
 ghost use Rattle.std.specs.Prelude.{◌≡◌, ◌≢◌, ◌⊎◌, ◌↔◌, ◌≤◌, IsTrue};
 ghost use Rattle.tn_server.specs.{Calls.LeadsTo, Events.History, Terms.options};
@@ -10,8 +11,8 @@ use tn_discipline::Chars;
 use tn_option::{ECHO, LINEMODE, NAWS, SUPPRESS_GO_AHEAD, Side};
 use tn_server::ServerEnd;
 
-/// What a server end had at some time of what its client changes, in the numbers of `tn.h`: of the options
-/// where the sides stand that a server end agrees to.
+/// The facts of a server end that its client changes, at some moment, in the numbers of `tn.h`: for
+/// options, the states of the sides to which a server end agrees.
 #[derive(Clone, Copy)]
 pub struct Seen {
     pub width: u16,
@@ -48,7 +49,7 @@ fn numbers_of(chars: &Chars) -> [u16; 8]
     ]
 }
 
-/// What an end has now.
+/// Returns the present facts of an end.
 pub(crate) fn seen_of(end: &ServerEnd) -> Seen
     ensures { (h : History) → LeadsTo h end.now → IsSeen h result }
 {
@@ -89,7 +90,7 @@ fn has_other_chars(old: &Seen, new: &Seen) -> bool
     new.chars != old.chars
 }
 
-// A bit if it is set, or 0.
+// Returns a bit if it is set, or 0.
 fn bit(is_set: bool, value: u32) -> u32
     ensures value { result ≡ bit is_set value }
     ensures within { result ≤ value }
@@ -97,7 +98,7 @@ fn bit(is_set: bool, value: u32) -> u32
     if is_set { value } else { 0 }
 }
 
-/// The bits of `tn_change` for what is otherwise.
+/// Returns the bits of `tn_change` for all that differs.
 pub(crate) fn change_bits(old: &Seen, new: &Seen) -> u32
     ensures { TellsChanges result old.now new.now }
 {

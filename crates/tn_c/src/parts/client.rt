@@ -17,7 +17,7 @@ use tn_client::{ClientEnd, ClientFault, UserCommand};
 use tn_codes::Func;
 use tn_discipline::{CharFault, Limit};
 
-// The code of what a call of the end answered.
+// Returns the code of the end's answer to a call.
 fn code_of(answer: Result<(), ClientFault>) -> Code
     ensures { result ≡ client_answer answer }
 {
@@ -41,7 +41,12 @@ pub struct HeldClient {
 }
 
 impl HeldClient {
-    /// An end whose window has this size, in characters. It has nothing to send: the server speaks first.
+    /// Starts an end whose window has this size, in characters. It has nothing to send: the server
+    /// begins the negotiation.
+    ///
+    /// # Errors
+    ///
+    /// - `Memory`: there is no memory for the line.
     pub fn start(
         alloc: Global,
         width: u16,
@@ -58,7 +63,7 @@ impl HeldClient {
         })
     }
 
-    /// Types a key: what it sends is to be sent, and its echo is to be shown.
+    /// Types a key: the bytes that it sends are to be sent, and its echo is to be shown.
     pub fn key(&mut self, key: u8) -> Code
         ensures { KeyCall key result self.old self.new }
     {
@@ -72,14 +77,15 @@ impl HeldClient {
         code_of(self.end.new_line(&mut self.pending, &mut self.shown))
     }
 
-    /// Takes bytes that came from the server, cut anywhere: answers are to be sent, text is to be shown.
+    /// Takes a piece of the server's stream, cut anywhere: replies are to be sent, text is to be
+    /// shown.
     pub fn feed(&mut self, piece: &[u8]) -> Code
         ensures { FeedCall piece.now result self.old self.new }
     {
         code_of(self.end.feed(piece, &mut self.pending, &mut self.shown))
     }
 
-    /// Takes a new size of the window, which is to be sent where NAWS is on and it changed.
+    /// Takes a new size of the window, which is to be sent if NAWS is on and the size changed.
     pub fn resize(&mut self, width: u16, height: u16) -> Code
         ensures { ResizeCall width height result self.old self.new }
     {
@@ -104,7 +110,7 @@ impl HeldClient {
         }
     }
 
-    /// Sends a command, before what is held of a line.
+    /// Sends a command, before the bytes of a line that are held.
     pub fn send(&mut self, command: UserCommand) -> Code
         ensures call { SendCall command result self.old self.new }
         ensures known { result ≢ code.NoCommand }
@@ -122,29 +128,32 @@ impl HeldClient {
         }
     }
 
-    /// Moves the first bytes that are to be sent, as many as fit, and says how many; the others stay.
+    /// Moves the first bytes that are to be sent, as many as fit, and sets `count` to their number;
+    /// the others stay.
     pub fn read(&mut self, buf: &mut [u8], count: &mut usize)
         ensures { ReadCall buf.old buf.new count.new self.old self.new }
     {
         *count = move_front(&mut self.pending, buf);
     }
 
-    /// Moves the first bytes that are to be shown, as many as fit, and says how many; the others stay.
+    /// Moves the first bytes that are to be shown, as many as fit, and sets `count` to their
+    /// number; the others stay.
     pub fn screen(&mut self, buf: &mut [u8], count: &mut usize)
         ensures { ScreenCall buf.old buf.new count.new self.old self.new }
     {
         *count = move_front(&mut self.shown, buf);
     }
 
-    /// Copies the first bytes of the half line that is held here, as many as fit, and says how many there
-    /// are.
+    /// Copies the first bytes of the half-typed line that the client holds, as many as fit, and
+    /// sets `count` to the number of all of them.
     pub fn half(&self, buf: &mut [u8], count: &mut usize)
         ensures { GivesHalf buf.old buf.new count.new self.now }
     {
         *count = give(self.end.half(), buf);
     }
 
-    /// Says how long a half line is that the server edits, with its ISIG set and with it clear.
+    /// Sets `trapped` and `plain` to the length of a half-typed line that the server edits, if its
+    /// ISIG is set and if it is clear.
     pub fn counts(&self, trapped: &mut u16, plain: &mut u16)
         ensures { GivesCounts trapped.new plain.new self.now }
     {
@@ -153,14 +162,15 @@ impl HeldClient {
         *plain = without;
     }
 
-    /// Gives the number of the special character of the function with this number; 256 where it is disabled.
+    /// Sets `value` to the number of the special character of the function with this number; 256 if
+    /// it is disabled.
     pub fn function_char(&self, function: u8, value: &mut u16) -> Code
         ensures { GivesChar function value.old value.new IsClientChar result self.now self.now }
     {
         give_char(&self.end.chars(), function, value)
     }
 
-    /// The number of where an option stands, at our side or at theirs.
+    /// Returns the number of an option's state, at our side or at theirs.
     pub fn option(&self, ours: bool, option: u8) -> u32
         ensures { GivesOption ours option result self.now }
     {

@@ -1,4 +1,4 @@
-//! What a call answers, and the numbers that C sees.
+//! The codes of calls, and the numbers that C sees.
 
 ghost use Rattle.std.specs.Prelude.{◌≡◌};
 ghost use Rattle.tn_c.specs.{parts.Codes.code_number, declared.parts.codes.Code.Code};
@@ -11,7 +11,7 @@ macro_rules! number_of {
     };
 }
 
-/// What a call answers. Each refusal has a code of its own.
+/// The code of a call. Each refusal has a code of its own.
 #[derive(Clone, Copy, Debug, PartialEq, Eq)]
 pub enum Code {
     /// The call was done.
@@ -26,7 +26,7 @@ pub enum Code {
     Started,
     /// The handle holds something of another kind.
     OtherKind,
-    /// No line can have this limit.
+    /// The limit is one that no line can have.
     NoLimit,
     /// A key would make an entry while 1,024 wait.
     TooFarAhead,
@@ -38,18 +38,18 @@ pub enum Code {
     NotSettable,
     /// A line feed, a carriage return and 255 are never special characters.
     Reserved,
-    /// Another special character has this value.
+    /// The value is that of another special character.
     Taken,
     /// LINEMODE is not on.
     NotOn,
     /// A forward mask has at most 32 octets, and a subnegotiation 512 parameters.
     TooLong,
-    /// No command that the call takes, or no option word, has this number.
+    /// The number is that of no command that the call takes, or of no verb of an option message.
     NoCommand,
 }
 
 impl Code {
-    /// Its number.
+    /// Returns the number of the code.
     pub fn number(self) -> u32
         ensures value { result ≡ code_number self }
         ensures tells { (code : Code) → result ≡ code_number code → self ≡ code }

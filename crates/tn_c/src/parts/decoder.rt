@@ -11,22 +11,22 @@ use std::alloc::Global;
 use std::marker::Model;
 use tn_nvt::{Decoder, Item, NvtFault};
 
-/// What C sees of an item: `tn_item`.
+/// An item as C sees it: `tn_item`.
 #[repr(C)]
 #[derive(Clone, Copy, Debug, PartialEq, Eq)]
 pub struct ItemSeen {
-    /// 0 for none, 1 for a byte, 2 for a new line, 3 for a command, 4 for an option word, 5 for a
-    /// subnegotiation.
+    /// The kind: 0 for none, 1 for a byte, 2 for a new line, 3 for a command, 4 for an option
+    /// message, 5 for a subnegotiation.
     pub kind: u32,
-    /// The byte of data, of a command, or of the verb of an option word.
+    /// The byte of data, of a command, or of the verb of an option message.
     pub code: u8,
-    /// The option of an option word or of a subnegotiation.
+    /// The option of an option message or of a subnegotiation.
     pub option: u8,
-    /// How many parameters a subnegotiation has.
+    /// The number of parameters of a subnegotiation.
     pub length: usize,
 }
 
-// The code of what a feed answered.
+// Returns the code of the answer to a feed.
 fn code_of(answer: Result<(), NvtFault>) -> Code
     ensures { result ≡ nvt_answer answer }
 {
@@ -38,7 +38,7 @@ fn code_of(answer: Result<(), NvtFault>) -> Code
     }
 }
 
-// What C sees of an item.
+// Returns an item as C sees it.
 fn seen(item: &Option<Item>) -> ItemSeen
     ensures { result ≡ item_seen item.now }
 {
@@ -58,7 +58,7 @@ fn seen(item: &Option<Item>) -> ItemSeen
     }
 }
 
-// The parameters of an item that is a subnegotiation.
+// Returns the parameters of an item that is a subnegotiation.
 fn parameters(item: &Option<Item>) -> &[u8]
     ensures { result.now ≡ parameters_of item.now }
 {
@@ -89,7 +89,7 @@ impl Model for HeldDecoder {
 }
 
 impl HeldDecoder {
-    /// A decoder that has read nothing.
+    /// Makes a decoder that has read nothing.
     pub fn start(alloc: Global) -> HeldDecoder
         ensures { IsFresh result }
     {
@@ -115,15 +115,16 @@ impl HeldDecoder {
         *item = seen(&self.item);
     }
 
-    /// Moves the first bytes of data that wait, as many as stand together and fit, and says how many.
+    /// Moves the first bytes of data that wait, as many as stand together and fit, and sets `count`
+    /// to their number.
     pub fn take_run(&mut self, buf: &mut [u8], count: &mut usize)
         ensures { TakeRunCall buf.old buf.new count.new self.old self.new }
     {
         *count = self.waiting.take_run(buf);
     }
 
-    /// Copies the first parameters of the item that was taken last, as many as fit, and says how many there
-    /// are.
+    /// Copies the first parameters of the item that was taken last, as many as fit, and sets
+    /// `count` to the number of all of them.
     pub fn parameters(&self, buf: &mut [u8], count: &mut usize)
         ensures { Gives (parameters_of self.now.item) buf.old buf.new count.new }
     {

@@ -1,4 +1,4 @@
-//! What a terminal shows of a key, as bytes.
+//! The echo of a key, as bytes.
 
 ghost use Rattle.std.specs.Prelude.{◌≡◌, ◌++◌, IfOk, OnOk};
 ghost use Rattle.tn_c.specs.parts.Echoes.{symbol_bytes, echo_bytes};
@@ -6,7 +6,7 @@ ghost use Rattle.tn_c.specs.parts.Echoes.{symbol_bytes, echo_bytes};
 use std::alloc::{AllocError, Global};
 use tn_discipline::Symbol;
 
-// Appends what is shown by a symbol, if there is one.
+// Appends the bytes that a symbol shows, if there is one.
 fn show(symbol: Option<Symbol>, out: &mut Vec<u8>) -> Result<(), AllocError>
     ensures { OnOk result (out.new.items ≡ out.old.items ++ symbol_bytes symbol) }
 {
@@ -17,7 +17,7 @@ fn show(symbol: Option<Symbol>, out: &mut Vec<u8>) -> Result<(), AllocError>
     }
 }
 
-/// The bytes of the symbols of a key.
+/// Returns the bytes of the symbols of a key.
 pub(crate) fn shown_bytes(alloc: Global, echo: [Option<Symbol>; 3]) -> Result<Vec<u8>, AllocError>
     ensures { IfOk result (λ bytes. bytes.items ≡ echo_bytes echo) }
 {

@@ -1,4 +1,4 @@
-//! The numbers of entries, and of what keys do.
+//! The numbers of entries, and of the effects of keys.
 
 ghost use Rattle.std.specs.Prelude.{◌≡◌, Some};
 ghost use Rattle.tn_c.specs.parts.Entries.{sig_number, entry_number, kind_number, effect_number, entry_given};
@@ -26,7 +26,7 @@ pub(crate) fn entry_number(entry: &Entry) -> u32
     }
 }
 
-/// 0 where there is none.
+/// Returns the number of an entry's kind, or 0 if there is none.
 pub(crate) fn kind_number(entry: &Option<Entry>) -> u32
     ensures { result ≡ kind_number entry.now }
 {
@@ -50,7 +50,7 @@ pub(crate) fn effect_number(effect: &Effect) -> u32
     }
 }
 
-/// The entry that an effect gives.
+/// Returns the entry that an effect gives.
 pub(crate) fn entry_given(effect: Effect) -> Option<Entry>
     ensures { result ≡ entry_given effect }
 {
@@ -60,7 +60,7 @@ pub(crate) fn entry_given(effect: Effect) -> Option<Entry>
     }
 }
 
-/// The same entry with a text of zeros, in the memory of its text.
+/// Returns an entry whose text is made of zeros, in the memory of the given one.
 pub(crate) fn wiped(entry: Option<Entry>) -> Option<Entry>
     ensures { result ≡ wiped_entry entry }
 {
@@ -74,7 +74,7 @@ pub(crate) fn wiped(entry: Option<Entry>) -> Option<Entry>
     }
 }
 
-/// The bytes of an entry where it is a text.
+/// Returns the bytes of an entry if it is a text.
 pub(crate) fn entry_text(entry: &Entry) -> &[u8]
     ensures { result.now ≡ text_of (Some entry.now) }
 {
@@ -84,7 +84,7 @@ pub(crate) fn entry_text(entry: &Entry) -> &[u8]
     }
 }
 
-/// The bytes of an entry that is a text.
+/// Returns the bytes of an entry that is a text.
 pub(crate) fn text_of(entry: &Option<Entry>) -> &[u8]
     ensures { result.now ≡ text_of entry.now }
 {

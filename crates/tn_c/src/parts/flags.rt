@@ -23,7 +23,7 @@ pub struct TerminalFlags {
 }
 
 impl TerminalFlags {
-    /// The same flags.
+    /// Returns these flags as those of a terminal.
     pub fn flags(&self) -> Flags
         ensures { result ≡ flags_given self.now }
     {

@@ -15,8 +15,8 @@ use std::alloc::{AllocError, Global};
 use tn_codes::Func;
 use tn_discipline::{CharFault, Chars, Entry, Flags, Limit, Line, Settings, Symbol, echo_of};
 
-/// A line that is typed under some settings, and of its last key the entry that it gave and what a terminal
-/// shows of it.
+/// A line that is typed under some settings, and of its last key the entry that it gave and the
+/// bytes that a terminal shows of it.
 #[derive(Drop)]
 pub struct HeldLine {
     pub line: Line,
@@ -26,7 +26,11 @@ pub struct HeldLine {
 }
 
 impl HeldLine {
-    /// An empty line under these flags and the standard special characters.
+    /// Makes an empty line under these flags and the standard special characters.
+    ///
+    /// # Errors
+    ///
+    /// - `AllocError`: there is no memory for the line.
     pub fn start(alloc: Global, flags: Flags, limit: Limit) -> Result<HeldLine, AllocError>
         ensures { IfOk result (IsEmpty flags limit) }
     {
@@ -41,7 +45,7 @@ impl HeldLine {
         })
     }
 
-    /// Types a key, and gives the number of what it did.
+    /// Types a key, and sets `effect` to the number of its effect.
     pub fn key(&mut self, key: u8, effect: &mut u32) -> Code
         ensures { KeyCall key effect.old effect.new result self.old self.new }
     {
@@ -56,22 +60,24 @@ impl HeldLine {
         }
     }
 
-    /// Copies the first bytes of the text that the last key gave, as many as fit, and says how many there
-    /// are.
+    /// Copies the first bytes of the text that the last key gave, as many as fit, and sets `count`
+    /// to the number of all of them.
     pub fn text(&self, buf: &mut [u8], count: &mut usize)
         ensures { Gives (text_of self.now.entry) buf.old buf.new count.new }
     {
         *count = give(text_of(&self.entry), buf);
     }
 
-    /// Copies the first bytes of the half line, as many as fit, and says how many there are.
+    /// Copies the first bytes of the half-typed line, as many as fit, and sets `count` to the
+    /// number of all of them.
     pub fn half(&self, buf: &mut [u8], count: &mut usize)
         ensures { HalfGiven buf.old buf.new count.new self.now }
     {
         *count = give(self.line.held(), buf);
     }
 
-    /// Copies what a terminal shows of the last key, as much as fits, and says how long that is.
+    /// Copies the bytes that a terminal shows of the last key, as many as fit, and sets `count` to
+    /// the number of all of them.
     pub fn echo(&self, alloc: Global, buf: &mut [u8], count: &mut usize) -> Code
         ensures { GivesEcho self.now.echo
             (record { old_buf = buf.old; new_buf = buf.new; old_count = count.old; new_count = count.new })
@@ -86,14 +92,14 @@ impl HeldLine {
         }
     }
 
-    /// Goes on under these flags; the half line stays.
+    /// Sets the flags of the line; the half-typed line stays.
     pub fn set_flags(&mut self, flags: Flags)
         ensures { SetFlagsCall flags self.old self.new }
     {
         self.settings.flags = flags;
     }
 
-    /// Changes the special character of a function, or disables it; the half line stays.
+    /// Changes the special character of a function, or disables it; the half-typed line stays.
     pub fn set_char(&mut self, func: Func, value: Option<u8>) -> Code
         ensures call { SetCharCall value func result self.old self.new }
         ensures known { result ≢ code.NoFunction }
@@ -116,7 +122,8 @@ impl HeldLine {
         }
     }
 
-    /// Gives the number of the special character of the function with this number; 256 where it is disabled.
+    /// Sets `value` to the number of the special character of the function with this number; 256 if
+    /// it is disabled.
     pub fn function_char(&self, function: u8, value: &mut u16) -> Code
         ensures { GivesChar function value.old value.new IsLineChar result self.now self.now }
     {

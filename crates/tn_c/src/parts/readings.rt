@@ -1,4 +1,4 @@
-//! The numbers of what an end tells of itself.
+//! The numbers of the facts that an end reports of itself.
 
 ghost use Rattle.std.specs.Prelude.{◌≡◌, ◌≢◌, ◌↔◌, ◌⊎◌, Some};
 ghost use Rattle.tn_client.specs.declared.commands.UserCommand.{UserCommand};
@@ -15,10 +15,10 @@ use tn_discipline::Chars;
 use tn_option::{QState, Side};
 use tn_server::Editing;
 
-/// What no byte is: no character.
+/// The number of no character, which no byte has.
 const NO_CHAR: u16 = 256;
 
-/// A special character as C sees it.
+/// Returns the number as which C sees a special character.
 pub(crate) fn char_number(value: Option<u8>) -> u16
     ensures { result ≡ char_number value }
 {
@@ -28,7 +28,7 @@ pub(crate) fn char_number(value: Option<u8>) -> u16
     }
 }
 
-/// The special character that C gives: none by a number that no byte is.
+/// Returns the special character that C gives: none by a number that no byte has.
 pub(crate) fn char_given(value: u16) -> Option<u8>
     ensures { result ≡ char_given value }
 {
@@ -39,7 +39,8 @@ pub(crate) fn char_given(value: u16) -> Option<u8>
     }
 }
 
-/// Gives the number of the special character of the function with this number; 256 where it is disabled.
+/// Sets `value` to the number of the special character of the function with this number; 256 if it
+/// is disabled.
 pub(crate) fn give_char(chars: &Chars, function: u8, value: &mut u16) -> Code
     ensures codes { (result ≡ code.Done) ⊎ (result ≡ code.NoFunction) }
     ensures value { (func : Func) → func_code func ≡ function →
@@ -57,7 +58,7 @@ pub(crate) fn give_char(chars: &Chars, function: u8, value: &mut u16) -> Code
     }
 }
 
-/// The command with the number that C gives, if a user sends one.
+/// Returns the command with the number that C gives, if a user sends one.
 pub(crate) fn command_given(number: u32) -> Option<UserCommand>
     ensures { (command : UserCommand) → (result ≡ Some command) ↔ (command_number command ≡ number) }
 {
@@ -83,14 +84,14 @@ pub(crate) fn state_number(state: QState) -> u32
     }
 }
 
-/// The side of an option that C gives: ours, or theirs.
+/// Returns the side of an option that C gives: ours, or theirs.
 pub(crate) fn side_given(ours: bool) -> Side
     ensures { result ≡ side_given ours }
 {
     if ours { Side::Us } else { Side::Them }
 }
 
-/// Where C wishes for lines to be edited: at the client, or at the server.
+/// Returns the side at which C requests that lines be edited: at the client, or at the server.
 pub(crate) fn editing_given(local: bool) -> Editing
     ensures { result ≡ editing_given local }
 {

@@ -26,16 +26,16 @@ use tn_discipline::{CharFault, Entry, Limit, Settings};
 use tn_pty::{PtyFault, QUEUE_SYMBOLS};
 use tn_server::{Editing, ServerEnd, ServerFault};
 
-/// How many octets a forward mask has (RFC 1184, section 2.3).
+/// The number of octets of a forward mask (RFC 1184, section 2.3).
 const MASK_OCTETS: usize = 32;
 
-/// How many entries may wait before a piece that finds room for each entry that it makes, and how many bytes
-/// such a piece has at most (`pieces_find_room` in `tn_server`).
+/// The most entries that may wait before a piece that finds room for each entry that it makes, and
+/// the most bytes of such a piece (`pieces_find_room` in `tn_server`).
 const MOST_BEFORE: usize = 511;
 
 const MOST_TAKEN: usize = 512;
 
-/// The code of what a call of the end answered; `$done` is done first where it was not refused.
+/// The code of the end's answer to a call; `$done` is done first if the call was not refused.
 macro_rules! code_of {
     ($answer:expr, $given:pat => $done:block) => {
         match $answer {
@@ -56,7 +56,7 @@ macro_rules! code_of {
     };
 }
 
-// No byte is taken: says that, unless the end has failed.
+// Takes no byte: sets `taken` to 0, unless the end has failed.
 fn take_none(has_failed: bool, taken: &mut usize) -> Code
     ensures answer { result ≡ (if has_failed then code.Failed else code.Done) }
     ensures taken { result ≡ code.Done → taken.new ≡ 0 }
@@ -75,12 +75,16 @@ pub struct HeldServer {
     pub end: ServerEnd,
     pub pending: Vec<u8>,
     pub entry: Option<Entry>,
-    /// What was there at the start, or at the last call of `changes`.
+    /// The facts of the end at the start, or at the last call of `changes`.
     pub seen: Seen,
 }
 
 impl HeldServer {
-    /// An end over a terminal with these settings; its opening words are to be sent.
+    /// Starts an end over a terminal with these settings; its opening messages are to be sent.
+    ///
+    /// # Errors
+    ///
+    /// - `Memory`: there is no memory for the terminal or for the messages.
     pub fn start(alloc: Global, settings: Settings, limit: Limit) -> Result<HeldServer, ServerFault>
         ensures ok { IfOk result (IsOpened (record { settings = settings; limit = limit })) }
         ensures fault { IfErr result (λ f. f ≡ fault.Memory) }
@@ -96,15 +100,15 @@ impl HeldServer {
         })
     }
 
-    /// Takes a piece of what comes from the client, cut anywhere; the replies are to be sent.
+    /// Takes a piece of the client's stream, cut anywhere; the replies are to be sent.
     pub fn feed(&mut self, piece: &[u8]) -> Code
         ensures { FeedCall piece.now result self.old self.new }
     {
         code_of!(self.end.feed(piece, &mut self.pending), () => {})
     }
 
-    /// Takes the first bytes of what comes from the client, as many as cannot make more entries than may
-    /// wait, and says how many. It takes none while more than 511 entries wait.
+    /// Takes the first bytes of the client's stream, as many as cannot make more entries than may
+    /// wait, and sets `taken` to their number. It takes none while more than 511 entries wait.
     pub fn feed_some(&mut self, bytes: &[u8], taken: &mut usize) -> Code
         ensures { FeedSomeCall bytes.now taken.old taken.new result self.old self.new }
     {
@@ -119,7 +123,7 @@ impl HeldServer {
         code
     }
 
-    /// Takes the first entry that waits, and gives the number of its kind.
+    /// Takes the first entry that waits, and sets `kind` to the number of its kind.
     pub fn take(&mut self, kind: &mut u32) -> Code
         ensures { TakeCall kind.old kind.new result self.old self.new }
     {
@@ -133,7 +137,8 @@ impl HeldServer {
         }
     }
 
-    /// Copies the first bytes of the text that was taken last, as many as fit, and says how many there are.
+    /// Copies the first bytes of the text that was taken last, as many as fit, and sets `count` to
+    /// the number of all of them.
     pub fn text(&self, buf: &mut [u8], count: &mut usize)
         ensures { Gives (text_of self.now.entry) buf.old buf.new count.new }
     {
@@ -147,14 +152,16 @@ impl HeldServer {
         self.entry = wiped(self.entry.take());
     }
 
-    /// Writes output of a job to the terminal's screen, the first bytes, and says how many fit.
+    /// Writes the first bytes of a job's output to the terminal's screen, as many as fit, and sets
+    /// `count` to their number.
     pub fn write(&mut self, bytes: &[u8], count: &mut usize)
         ensures { WriteCall bytes.now count.new self.old self.new }
     {
         *count = self.end.write(bytes);
     }
 
-    /// Spells the first symbols of the screen, at most `max` of them, to be sent, and says how many.
+    /// Spells the first symbols of the screen, at most `max` of them, to be sent, and sets `count`
+    /// to their number.
     pub fn pull(&mut self, max: usize, count: &mut usize) -> Code
         ensures { PullCall max count.old count.new result self.old self.new }
     {
@@ -167,8 +174,9 @@ impl HeldServer {
         }
     }
 
-    /// Writes output of a job, the first bytes, says how many fit, and spells all that waits on the screen,
-    /// to be sent. `Memory` if that could not be spelled: it waits on the screen.
+    /// Writes the first bytes of a job's output, as many as fit, sets `count` to their number, and
+    /// spells all that waits on the screen, to be sent. It returns `Memory` if that could not be
+    /// spelled: the bytes wait on the screen.
     pub fn say(&mut self, bytes: &[u8], count: &mut usize) -> Code
         ensures { SayCall bytes.now count.new result self.old self.new }
     {
@@ -177,7 +185,7 @@ impl HeldServer {
         self.pull(QUEUE_SYMBOLS, &mut symbols)
     }
 
-    /// Says where the bytes that are to be sent stand, and how many they are.
+    /// Sets `bytes` to the place of the bytes that are to be sent, and `count` to their number.
     pub fn peek(&self, bytes: &mut *const u8, count: &mut usize)
         ensures { GivesPending bytes.new count.new self.now }
     {
@@ -192,21 +200,24 @@ impl HeldServer {
         drop_front(&mut self.pending, count);
     }
 
-    /// Wishes for editing at the client, or at the server, and says whether a MODE is sent for it.
+    /// Requests that the client, or the server, edit lines, and sets `sent` to whether a MODE is
+    /// sent for it.
     pub fn wish(&mut self, editing: Editing, sent: &mut bool) -> Code
         ensures { WishCall editing sent.old sent.new result self.old self.new }
     {
         code_of!(self.end.wish(editing, &mut self.pending), is_sent => { *sent = is_sent; })
     }
 
-    /// Wishes for editing at the client where that is said, or else at the server.
+    /// Requests that the client edit lines if `local` is true, and else the server, and sets `sent`
+    /// to whether a MODE is sent for it.
     pub fn wish_for(&mut self, local: bool, sent: &mut bool) -> Code
         ensures { WishCall (editing_given local) sent.old sent.new result self.old self.new }
     {
         self.wish(editing_given(local), sent)
     }
 
-    /// Changes a special character, or disables it; a client with LINEMODE is to be told.
+    /// Changes a special character, or disables it; the triple for a client with LINEMODE is to be
+    /// sent.
     pub fn set_char(&mut self, func: Func, value: Option<u8>) -> Code
         ensures call { SetCharCall value func result self.old self.new }
         ensures known { result ≢ code.NoFunction }
@@ -214,14 +225,16 @@ impl HeldServer {
         code_of!(self.end.set_char(func, value, &mut self.pending), () => {})
     }
 
-    /// Sets or clears the terminal's flag ECHO; the word for the option ECHO is to be sent, if one is due.
+    /// Sets or clears the terminal's flag ECHO; the message for the option ECHO is to be sent, if
+    /// one is due.
     pub fn set_echo(&mut self, on: bool) -> Code
         ensures { Acts (echo_set on) call_fault result self.old self.new }
     {
         code_of!(self.end.set_echo(on, &mut self.pending), () => {})
     }
 
-    /// Asks the client to send what it holds at each character of this mask, or by `None` at none any more.
+    /// Asks the client to send the bytes that it holds at each character of this mask, or by `None`
+    /// at none any more.
     pub fn set_mask(&mut self, mask: Option<Mask>) -> Code
         ensures call { SetMaskCall mask result self.old self.new }
         ensures short { result ≢ code.TooLong }
@@ -239,7 +252,8 @@ impl HeldServer {
         }
     }
 
-    /// Asks for what is held at each character of the mask of these octets; those that it lacks are zero.
+    /// Asks the client to send the bytes that it holds at each character of the mask of these
+    /// octets; those that the mask lacks are zero.
     pub fn set_octets(&mut self, octets: &[u8]) -> Code
         ensures { SetOctetsCall octets.now result self.old self.new }
     {
@@ -249,21 +263,24 @@ impl HeldServer {
         self.set_mask(Some(Mask::from_octets(octets)))
     }
 
-    /// Moves the first bytes that are to be sent, as many as fit, and says how many; the others stay.
+    /// Moves the first bytes that are to be sent, as many as fit, and sets `count` to their number;
+    /// the others stay.
     pub fn read(&mut self, buf: &mut [u8], count: &mut usize)
         ensures { ReadCall buf.old buf.new count.new self.old self.new }
     {
         *count = move_front(&mut self.pending, buf);
     }
 
-    /// Copies the first bytes of the half line, as many as fit, and says how many there are.
+    /// Copies the first bytes of the half-typed line, as many as fit, and sets `count` to the
+    /// number of all of them.
     pub fn half(&self, buf: &mut [u8], count: &mut usize)
         ensures { (h : History) → LeadsTo h self.now.end → Gives (half h) buf.old buf.new count.new }
     {
         *count = give(self.end.half(), buf);
     }
 
-    /// The number of the kind of an entry that waits, by its place from the first on; 0 where none is there.
+    /// Returns the number of the kind of an entry that waits, counted from the first, which is 0;
+    /// the number is 0 if none is there.
     pub fn waiting_kind(&self, index: usize) -> u32
         ensures { (h : History) → LeadsTo h self.now.end →
             result ≡ kind_number (slice_get (waiting h) index) }
@@ -274,8 +291,8 @@ impl HeldServer {
         }
     }
 
-    /// Copies the first bytes of the text of an entry that waits, by its place from the first on, as many as
-    /// fit, and says how many there are; the entry stays.
+    /// Copies the first bytes of the text of an entry that waits, counted from the first, which is
+    /// 0, as many as fit, and sets `count` to the number of all of them; the entry stays.
     pub fn waiting_text(&self, index: usize, buf: &mut [u8], count: &mut usize)
         ensures { (h : History) → LeadsTo h self.now.end →
             Gives (text_of (slice_get (waiting h) index)) buf.old buf.new count.new }
@@ -287,7 +304,7 @@ impl HeldServer {
         }
     }
 
-    /// The number of the first signal among the entries that wait; 0 where there is none.
+    /// Returns the number of the first signal among the entries that wait, or 0 if there is none.
     pub fn signal_waiting(&self) -> u32
         ensures { (h : History) → LeadsTo h self.now.end → result ≡ signal_number (first_signal (waiting h)) }
     {
@@ -297,7 +314,8 @@ impl HeldServer {
         }
     }
 
-    /// Says by the bits of `tn_change` what is otherwise than at the last such call, or at the start.
+    /// Sets `bits` to the bits of `tn_change` for all that differs from the last such call, or from
+    /// the start.
     pub fn changes(&mut self, bits: &mut u32)
         ensures { ChangesCall bits.new self.old self.new }
     {
@@ -306,7 +324,7 @@ impl HeldServer {
         self.seen = seen;
     }
 
-    /// Gives the window's width and height in characters.
+    /// Sets `width` and `height` to the window's size in characters; 0 is unspecified.
     pub fn size(&self, width: &mut u16, height: &mut u16)
         ensures { (h : History) → LeadsTo h self.now.end → (width.new, height.new) ≡ size h }
     {
@@ -315,14 +333,15 @@ impl HeldServer {
         *height = rows;
     }
 
-    /// Gives the number of the special character of the function with this number; 256 where it is disabled.
+    /// Sets `value` to the number of the special character of the function with this number; 256 if
+    /// it is disabled.
     pub fn function_char(&self, function: u8, value: &mut u16) -> Code
         ensures { GivesChar function value.old value.new IsServerChar result self.now self.now }
     {
         give_char(&self.end.chars(), function, value)
     }
 
-    /// The number of where an option stands, at our side or at theirs.
+    /// Returns the number of an option's state, at our side or at theirs.
     pub fn option(&self, ours: bool, option: u8) -> u32
         ensures { (h : History) → LeadsTo h self.now.end →
             result ≡ state_number (state_of (options h) (side_given ours) option) }

@@ -1,4 +1,5 @@
-//! Spells items to a caller's buffer, as much of a spelling as fits, and says how long it is.
+//! Spells items to a caller's buffer, as much of a spelling as fits, and sets `count` to the length
+//! of the whole spelling.
 
 ghost use Rattle.std.specs.Prelude.{◌≡◌};
 ghost use Rattle.tn_nvt.specs.declared.items.Item.TheVariants as item;
@@ -10,7 +11,7 @@ use std::alloc::Global;
 use tn_codes::{Command, Verb};
 use tn_nvt::{MAX_PARAMETERS, put_byte, put_cmd, put_neg, put_newline, put_sub};
 
-/// Spells a byte of data.
+/// Spells a byte of data, as much as fits, and sets `count` to the length of the whole spelling.
 pub fn spell_byte(alloc: Global, byte: u8, buf: &mut [u8], count: &mut usize) -> Code
     ensures { Spells (item.Byte byte)
         (record { old_buf = buf.old; new_buf = buf.new; old_count = count.old; new_count = count.new })
@@ -26,7 +27,7 @@ pub fn spell_byte(alloc: Global, byte: u8, buf: &mut [u8], count: &mut usize) ->
     }
 }
 
-/// Spells the end of a line.
+/// Spells the end of a line, as much as fits, and sets `count` to the length of the whole spelling.
 pub fn spell_newline(alloc: Global, buf: &mut [u8], count: &mut usize) -> Code
     ensures { Spells item.Newline
         (record { old_buf = buf.old; new_buf = buf.new; old_count = count.old; new_count = count.new })
@@ -58,7 +59,8 @@ fn spell_known(alloc: Global, command: Command, buf: &mut [u8], count: &mut usiz
     }
 }
 
-/// Spells the command with this byte behind IAC, if there is one.
+/// Spells the command with this byte after IAC, as much as fits, and sets `count` to the length of
+/// the whole spelling. It returns `NoCommand` if there is no such command.
 pub fn spell_command(alloc: Global, byte: u8, buf: &mut [u8], count: &mut usize) -> Code
     ensures { SpellsCommand byte
         (record { old_buf = buf.old; new_buf = buf.new; old_count = count.old; new_count = count.new })
@@ -70,7 +72,7 @@ pub fn spell_command(alloc: Global, byte: u8, buf: &mut [u8], count: &mut usize)
     }
 }
 
-// Spells an option word.
+// Spells an option message.
 fn spell_verb(alloc: Global, verb: Verb, option: u8, buf: &mut [u8], count: &mut usize) -> Code
     ensures { Spells (item.Neg verb option)
         (record { old_buf = buf.old; new_buf = buf.new; old_count = count.old; new_count = count.new })
@@ -86,7 +88,8 @@ fn spell_verb(alloc: Global, verb: Verb, option: u8, buf: &mut [u8], count: &mut
     }
 }
 
-/// Spells the option word with this byte behind IAC, if there is one.
+/// Spells the option message whose verb has this byte after IAC, as much as fits, and sets `count`
+/// to the length of the whole spelling. It returns `NoCommand` if there is no such verb.
 pub fn spell_word(alloc: Global, byte: u8, option: u8, buf: &mut [u8], count: &mut usize) -> Code
     ensures { SpellsWord byte option
         (record { old_buf = buf.old; new_buf = buf.new; old_count = count.old; new_count = count.new })
@@ -98,7 +101,8 @@ pub fn spell_word(alloc: Global, byte: u8, option: u8, buf: &mut [u8], count: &m
     }
 }
 
-/// Spells a subnegotiation, of at most 512 parameters.
+/// Spells a subnegotiation of at most 512 parameters, as much as fits, and sets `count` to the
+/// length of the whole spelling.
 pub fn spell_sub(
     alloc: Global,
     option: u8,

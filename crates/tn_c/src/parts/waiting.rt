@@ -12,7 +12,7 @@ use std::collections::VecDeque;
 use std::marker::Model;
 use tn_nvt::{Item, Refused, Sink};
 
-/// So many bytes of data, one at least, or an item that is no byte of data.
+/// A number of bytes of data, at least one, or an item that is no byte of data.
 #[derive(Drop)]
 pub(crate) enum Part {
     Run(usize),
@@ -61,7 +61,7 @@ impl Sink for Waiting {
 }
 
 impl Waiting {
-    /// No item waits.
+    /// Makes an empty list.
     pub(crate) fn new(alloc: Global) -> Waiting
         ensures { result ≡ [] }
     {

@@ -11,7 +11,7 @@ use std::alloc::{AllocError, Global};
 /// The version of `tn`, which the line that it prints has too.
 const VERSION: &str = "1.2.0";
 
-/// What `tn --version` prints.
+/// The output of `tn --version`.
 pub const VERSION_LINE: &str = "tn 1.2.0\n";
 
 /// The whole command line.

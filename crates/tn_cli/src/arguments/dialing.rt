@@ -1,4 +1,4 @@
-//! How a connection is asked for.
+//! The options by which a connection is asked for.
 
 use crate::arguments::lacks::{Lack, lacking};
 use crate::arguments::options::{BIND, IPV4, IPV6};

@@ -1,8 +1,8 @@
-//! Which options take no value.
+//! The options that take no value.
 
 use crate::arguments::choices::{CONNECT_GROUPS, Choice};
 
-/// Whether an option of `tn connect` that has this name takes no value.
+/// Returns whether an option of `tn connect` that has this name takes no value.
 pub fn is_connect_flag(name: &str) -> bool {
     for group in CONNECT_GROUPS {
         for choice in group.choices {

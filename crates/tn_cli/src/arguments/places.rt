@@ -11,10 +11,10 @@ use crate::arguments::words::WordsFault;
 use clap::ArgMatches;
 use std::alloc::Global;
 
-/// The host of a connection where none is named.
+/// The host of a connection if none is named.
 const THIS_MACHINE: &str = "127.0.0.1";
 
-/// The port of a connection where only a host is named.
+/// The port of a connection if only a host is named.
 const TELNET_PORT: u16 = 23;
 
 const NO_PORT: &str =
@@ -34,7 +34,7 @@ pub(crate) struct Place {
     pub(crate) port: Port,
 }
 
-// The host and the port that the words ask for.
+// Returns the host and the port for which the arguments ask.
 pub(crate) fn place_of(alloc: Global, words: &ArgMatches<'_>) -> Result<Place, WordsFault>
     ensures { IfOk result (λ place. PortWithin place.port) }
 {
@@ -47,7 +47,7 @@ pub(crate) fn place_of(alloc: Global, words: &ArgMatches<'_>) -> Result<Place, W
     Ok(Place { host, port })
 }
 
-// The host that is named and the port within it, or this machine.
+// Returns the host that is named and the port within it, or this machine.
 fn named_place<'a>(words: &ArgMatches<'a>) -> Option<(&'a str, Option<u16>)>
     ensures { IfSome result (λ place. IfSome place.1 (IsWithin 1 65535)) }
 {
@@ -57,7 +57,7 @@ fn named_place<'a>(words: &ArgMatches<'a>) -> Option<(&'a str, Option<u16>)>
     }
 }
 
-// The port that is asked for, by its number or by the name of its service.
+// Returns the port that is asked for, by its number or by the name of its service.
 fn port_asked(
     alloc: Global,
     words: &ArgMatches<'_>,
@@ -82,7 +82,7 @@ fn begins_with_letter(text: &str) -> bool {
     }
 }
 
-// The service of this name, unless a port is given too.
+// Returns the service of this name, unless a port is given too.
 fn service_of(
     alloc: Global,
     words: &ArgMatches<'_>,
@@ -97,7 +97,7 @@ fn service_of(
     Ok(Port::Service(String::from_str(alloc, name)?))
 }
 
-// The one number that is given, where no service is named.
+// Returns the one number that is given, if no service is named.
 fn port_of(words: &ArgMatches<'_>, within: Option<u16>) -> Option<u16>
     requires { IfSome within (IsWithin 1 65535) }
     ensures { IfSome result (IsWithin 1 65535) }
@@ -107,7 +107,8 @@ fn port_of(words: &ArgMatches<'_>, within: Option<u16>) -> Option<u16>
     one_port(option, place, within, is_given(words, HOST))
 }
 
-// The port that is given, or Telnet's where none is and a host is named; `None` where more are given.
+// Returns the port that is given, or Telnet's if none is and a host is named; `None` if more are
+// given.
 fn one_port(
     option: Option<u16>,
     place: Option<u16>,
@@ -128,7 +129,7 @@ fn one_port(
     }
 }
 
-// Why the words give no port.
+// Returns why the arguments give no port.
 fn port_lack<'a>(words: &ArgMatches<'a>) -> Lack<'a> {
     if let Some(text) = words.get_str(AT_PLACE) {
         if given_short(words, AT).is_none() {

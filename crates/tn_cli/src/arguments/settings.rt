@@ -1,4 +1,4 @@
-//! How to serve and how to connect.
+//! The options of a server and of a client.
 
 ghost use Rattle.std.specs.Prelude.{IfSome};
 ghost use Rattle.tn_cli.specs.arguments.Ranges.{IsWithin};
@@ -13,7 +13,7 @@ pub const USUAL_WIDTH: u16 = 80;
 
 pub const USUAL_HEIGHT: u16 = 24;
 
-/// Where a service is.
+/// The place of a service.
 #[derive(Debug, Drop, PartialEq, Eq)]
 pub struct Address {
     /// The address of its host, or a name that has one; or `unix:` and the path of a socket.
@@ -77,7 +77,7 @@ fn unbracketed(text: &str) -> Option<&str> {
     }
 }
 
-// The host and, where it writes one, the port that a text writes.
+// Returns the host and, if it writes one, the port that a text writes.
 pub(crate) fn place_in(text: &str) -> Option<(&str, Option<u16>)>
     ensures { IfSome result (λ read. IfSome read.1 (IsWithin 1 65535)) }
 {
@@ -116,7 +116,7 @@ pub struct Socket {
     pub handed: Option<u16>,
 }
 
-/// How to serve.
+/// The options of a server, as the arguments give them.
 #[derive(Debug, Drop, PartialEq, Eq)]
 pub struct ServeWords {
     /// The addresses to listen on, or names that have one, or `unix:` and the path of a socket, unless the
@@ -131,7 +131,8 @@ pub struct ServeWords {
     pub count: Option<u32>,
     /// The file that ends it before that, once it is there.
     pub until: Option<String>,
-    /// How often the job in the background ticks, from 0 to 1,000; at 0 there is no such job.
+    /// The number of ticks of the job in the background, from 0 to 1,000; at 0 there is no such
+    /// job.
     pub ticks: u16,
     /// The most bytes in a line.
     pub line_limit: Limit,
@@ -140,12 +141,13 @@ pub struct ServeWords {
     pub idle: Option<u32>,
     /// After how many seconds a session ends, from 0 to 86,400; at 0 it never does for that.
     pub longest: u32,
-    /// How many seconds sessions have to end once no more are to begin, from 0 to 86,400; at 0 they take their
-    /// time.
+    /// The number of seconds that sessions have to end once no more are to begin, from 0 to 86,400;
+    /// 0 sets no limit.
     pub drain: u32,
-    /// For how many seconds a session dials the service that it is joined to, from 1 to 86,400.
+    /// The number of seconds for which a session dials the service to which it is joined, from 1 to
+    /// 86,400.
     pub dial: u32,
-    /// Whether connections are of a proxy, and begin with the line that says for whom.
+    /// Whether connections are of a proxy, and begin with the line that names its client.
     pub proxied: bool,
     /// Whether the client is asked to edit the lines.
     pub local: bool,
@@ -159,9 +161,10 @@ pub struct ServeWords {
     pub banner: Option<String>,
     /// The line service that each session is joined to.
     pub to: Option<Address>,
-    /// What ends each line for that service.
+    /// The bytes that end each line for that service.
     pub line_end: LineEnd,
-    /// Whether a line that may have been cut ends its session, in place of going to that service.
+    /// Whether a line that may have been truncated ends its session, in place of going to that
+    /// service.
     pub ends_cut: bool,
     /// Whether signals and the end of file go to that service as their bytes.
     pub sends_signals: bool,
@@ -170,9 +173,9 @@ pub struct ServeWords {
 /// The key by which the user at a terminal speaks to the client itself.
 #[derive(Clone, Copy, Debug, PartialEq, Eq)]
 pub enum Escape {
-    /// This control character, from 1 to 31.
+    /// The control character of this code, from 1 to 31, is the escape key.
     Key(u8),
-    /// No key does.
+    /// No key is the escape key.
     None,
 }
 
@@ -198,7 +201,7 @@ fn control_of(letter: u8) -> Option<u8> {
     }
 }
 
-/// Whose special characters the keys of a terminal are taken by.
+/// The terminal whose special characters decide how the keys of a terminal are taken.
 #[derive(Clone, Copy, Debug, PartialEq, Eq)]
 pub enum Characters {
     /// Those of the terminal that they are typed at.
@@ -240,19 +243,19 @@ pub struct ConnectWords {
     /// The address of the host, or a name that has one.
     pub host: String,
     pub port: Port,
-    /// The width of the window in characters, or 0 for none that is told; `None` where none is given.
+    /// The width of the window in characters, or 0 if none is sent; `None` if none is given.
     pub width: Option<u16>,
-    /// The height of the window in lines, or 0 for none that is told; `None` where none is given.
+    /// The height of the window in lines, or 0 if none is sent; `None` if none is given.
     pub height: Option<u16>,
     /// The most bytes in a line.
     pub line_limit: Limit,
     /// The key by which the user at a terminal speaks to the client itself.
     pub escape: Escape,
-    /// Whose special characters the keys of a terminal are taken by.
+    /// The terminal whose special characters decide how the keys of a terminal are taken.
     pub characters: Characters,
     /// The bytes that RETURN sends at a terminal, if the user has chosen them.
     pub returns: Option<ReturnBytes>,
-    /// When the keys of a terminal go to the server.
+    /// The moment at which the keys of a terminal go to the server.
     pub mode: Mode,
     /// Whether Up and Down bring lines that were typed before.
     pub history: bool,
@@ -266,14 +269,17 @@ pub struct ConnectWords {
     pub log_times: bool,
     /// Whether the keys from a pipe are lines of a text, each of which RETURN ends.
     pub text: bool,
-    /// How many seconds after the end of its input the server is told that no more comes, from 0 to 86,400.
+    /// The number of seconds after the end of its input at which the server gets the end of the
+    /// stream, from 0 to 86,400.
     pub wait: u32,
-    /// For how many seconds nothing may come after that, from 0 to 86,400; at 0 it may for ever.
+    /// The number of seconds for which nothing may come after that, from 0 to 86,400; 0 sets no
+    /// limit.
     pub patience: u32,
-    /// Which addresses are tried, from where, and for how many seconds each, from 0 to 86,400.
+    /// The addresses that are tried, the source address, and the number of seconds for each, from 0
+    /// to 86,400.
     pub dialing: Dialing,
-    /// Whether a terminal is told nothing of the connection.
+    /// Whether a terminal gets no lines about the connection.
     pub quiet: bool,
-    /// What ends each line, where the connection is without Telnet.
+    /// The bytes that end each line, if the connection is without Telnet.
     pub plain: Option<LineEnd>,
 }

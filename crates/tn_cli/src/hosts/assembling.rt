@@ -1,4 +1,4 @@
-//! Words of the command line from a host's table and from the user's own words.
+//! Joins the arguments of a host's table and the user's own arguments.
 
 use crate::arguments::{WordsFault, read_words};
 use crate::hosts::expanding::HostsFault;
@@ -12,10 +12,10 @@ const ANY_HOST: &str = "h";
 
 const ANY_PORT: &str = "23";
 
-/// The word for a connection without Telnet.
+/// The argument for a connection without Telnet.
 const PLAIN: &str = "--plain";
 
-/// The words of a user who named a host.
+/// The arguments of a user who named a host.
 #[derive(Clone, Copy)]
 pub(crate) struct User<'a> {
     pub(crate) words: &'a [String],
@@ -71,7 +71,7 @@ fn refusal_of(
     refusal(alloc, &words)
 }
 
-// Finds what is wrong with these words, if something is: the first line of the message.
+// Finds what is wrong with these arguments, if something is: the first line of the message.
 fn refusal(alloc: Global, words: &[&str]) -> Result<Option<String>, AllocError> {
     match read_words(alloc, words) {
         Err(WordsFault::Usage(detail)) => {
@@ -88,8 +88,9 @@ fn refusal(alloc: Global, words: &[&str]) -> Result<Option<String>, AllocError> 
     }
 }
 
-/// The words of the host's table, and the user's words after them. A word of the user wins: the table's option
-/// is left out if the user gives it too, or if the user's words exclude it.
+/// Returns the arguments of the host's table, and the user's arguments after them. An argument of
+/// the user wins: the table's option is left out if the user gives it too, or if the user's
+/// arguments exclude it.
 pub(crate) fn assemble(
     alloc: Global,
     user: User<'_>,
@@ -116,8 +117,8 @@ pub(crate) fn assemble(
     owned(alloc, &words)
 }
 
-// Whether the user's words are accepted with this one of the table, by itself or as a connection without
-// Telnet.
+// Returns whether the user's arguments are accepted with this one of the table, by itself or as a
+// connection without Telnet.
 fn fits(alloc: Global, user: User<'_>, entry: &Entry<'_>, word: &str) -> Result<bool, AllocError> {
     let by_itself = together(alloc, user, entry, &[word])?;
     if refusal(alloc, &by_itself)?.is_none() {
@@ -127,7 +128,8 @@ fn fits(alloc: Global, user: User<'_>, entry: &Entry<'_>, word: &str) -> Result<
     Ok(refusal(alloc, &plain)?.is_none())
 }
 
-// The user's words, these words of the table before them, and the table's host and port in place of the name.
+// Joins the user's arguments, these arguments of the table before them, and the table's host and
+// port in place of the name.
 fn together<'a>(
     alloc: Global,
     user: User<'a>,

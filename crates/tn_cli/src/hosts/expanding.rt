@@ -1,4 +1,4 @@
-//! A host of the file in the words of a command line.
+//! Replaces a host of the file in the arguments of a command line.
 
 use crate::hosts::assembling::{User, assemble, check};
 use crate::hosts::file::HostsFile;
@@ -9,7 +9,7 @@ use std::alloc::{AllocError, Global};
 use std::env::Env;
 use std::fs::{File, Files};
 
-/// Why a host of the file stands for no words.
+/// The reason why a host of the file stands for no arguments.
 #[derive(Debug, Drop)]
 pub enum HostsFault {
     Memory,
@@ -28,13 +28,14 @@ impl From<AllocError> for HostsFault {
     }
 }
 
-/// Gives the words that these words of a command line, the program's name first, stand for: those of
-/// `connect` with a HOST that the user's file has. `None` if they stand for themselves.
+/// Returns the arguments that these arguments of a command line, the program's name first, stand
+/// for: those of `connect` with a HOST that the user's file has. It returns `None` if they stand
+/// for themselves.
 ///
 /// # Errors
 ///
-/// `Mistake` if the file has one that concerns this host: in its table, or anywhere if the file is no TOML,
-/// the host is named in it, and its table cannot be told from the rest.
+/// - `Mistake`: the file has one that concerns this host: in its table, or anywhere if the file is
+///   no TOML, the host is named in it, and its table cannot be separated from the rest.
 pub fn expand<R: Env + Files<File = File>>(
     rt: &R,
     alloc: Global,
@@ -59,7 +60,7 @@ pub fn expand<R: Env + Files<File = File>>(
     Ok(Some(assemble(alloc, user, &entry, &is_given)?))
 }
 
-// Whether the user gives each option of the table.
+// Returns whether the user gives each option of the table.
 fn given_among(
     alloc: Global,
     given: &Given<'_>,

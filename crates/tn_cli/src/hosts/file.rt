@@ -1,4 +1,4 @@
-//! The file, and what it says of a host.
+//! The user's file, and its table for a host.
 
 use crate::hosts::expanding::HostsFault;
 use crate::hosts::places::{line_at, part_of, place_in};
@@ -15,7 +15,7 @@ const SETTINGS: &str = "XDG_CONFIG_HOME";
 
 const HOME: &str = "HOME";
 
-/// How many bytes a path has at most.
+/// The most bytes of a path.
 const MAX_PATH: usize = 4_096;
 
 /// The file of hosts: its path and its text.
@@ -26,7 +26,7 @@ pub(crate) struct HostsFile {
 }
 
 impl HostsFile {
-    /// The user's file. `None` if there is none, or none that can be opened.
+    /// Reads the user's file. It returns `None` if there is none, or none that can be opened.
     pub(crate) fn read<R: Env + Files<File = File>>(
         rt: &R,
         alloc: Global,
@@ -44,7 +44,7 @@ impl HostsFile {
         }
     }
 
-    /// The message for a mistake in this line.
+    /// Makes the message for a mistake in this line.
     pub(crate) fn mistake(&self, alloc: Global, line: usize, why: &str) -> HostsFault {
         match format!(in alloc; "tn: {}: line {}: {}\n", self.path, line, why) {
             Ok(text) => HostsFault::Mistake(text),
@@ -52,13 +52,13 @@ impl HostsFile {
         }
     }
 
-    /// The text of the file, if it is text.
+    /// Returns the text of the file, if it is text.
     pub(crate) fn text(&self) -> &str {
         str::from_utf8(&self.bytes).unwrap_or("")
     }
 
-    /// The table of this host. A file that is no TOML is a mistake if the host is named in it, and its table
-    /// cannot be read by itself.
+    /// Returns the table of this host. A file that is no TOML is a mistake if the host is named in
+    /// it, and its table cannot be read by itself.
     pub(crate) fn table_of(&self, alloc: Global, host: &str) -> Result<Option<Table>, HostsFault> {
         let Some(place) = place_in(&self.bytes, host.as_bytes()) else {
             return Ok(None);
@@ -74,7 +74,7 @@ impl HostsFile {
         self.entry_of(alloc, text, host, table)
     }
 
-    // The part of the file that is about this host, if the whole file has this error.
+    // Returns the part of the file that is about this host, if the whole file has this error.
     fn part_of(
         &self,
         alloc: Global,
@@ -91,7 +91,7 @@ impl HostsFile {
         }
     }
 
-    // The message for an error in a text that begins in this line.
+    // Makes the message for an error in a text that begins in this line.
     fn error(&self, alloc: Global, text: &str, first: usize, error: toml::de::Error) -> HostsFault {
         let Some(span) = error.span() else {
             return HostsFault::Memory;
@@ -126,7 +126,7 @@ fn unread(alloc: Global, path: &str, error: &io::Error) -> HostsFault {
     }
 }
 
-// Where the file lies.
+// Returns the path of the file.
 fn path_of<R: Env>(rt: &R, alloc: Global) -> Result<Option<String>, AllocError> {
     if let Some(folder) = folder_of(rt, alloc, SETTINGS)? {
         return Ok(Some(format!(in alloc; "{}/tn/hosts", folder)?));
@@ -137,7 +137,7 @@ fn path_of<R: Env>(rt: &R, alloc: Global) -> Result<Option<String>, AllocError> 
     }
 }
 
-// The folder that an environment variable names; a relative one is none.
+// Returns the folder that an environment variable names; a relative one is none.
 fn folder_of<R: Env>(rt: &R, alloc: Global, name: &str) -> Result<Option<String>, AllocError> {
     let mut path = [0; MAX_PATH];
     let Ok(count) = rt.var(name, &mut path) else {

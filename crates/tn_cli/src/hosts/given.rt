@@ -1,25 +1,25 @@
-//! The host and the options that the user's own words give.
+//! The host and the options that the user's own arguments give.
 
 use crate::arguments::is_connect_flag;
 use std::alloc::{AllocError, Global};
 
-/// How many words stand before those of `connect`: the program's name and that word.
+/// The number of arguments before those of `connect`: the program's name and `connect`.
 pub(crate) const BEFORE: usize = 2;
 
-/// A host that the user's words name.
+/// A host that the user's arguments name.
 #[derive(Clone, Copy)]
 pub(crate) struct Named<'a> {
-    /// The place of the word among the words.
+    /// The place of the host among the arguments.
     pub(crate) place: usize,
     pub(crate) name: &'a str,
     /// The port after a colon.
     within: Option<&'a str>,
-    /// A port is given by another word.
+    /// Whether another argument gives a port.
     has_port: bool,
 }
 
 impl<'a> Named<'a> {
-    /// The port after the host, if it is not given by another word: the user's, else this one.
+    /// Returns the port after the host, if no other argument gives one: the user's, else this one.
     pub(crate) fn port_or(&self, port: Option<&'a str>) -> Option<&'a str> {
         if self.has_port {
             return None;
@@ -31,23 +31,24 @@ impl<'a> Named<'a> {
     }
 }
 
-/// The host, the port and the options that the words of `tn connect` give.
+/// The host, the port and the options that the arguments of `tn connect` give.
 #[derive(Drop)]
 pub(crate) struct Given<'a> {
-    /// HOST, and its place among the words.
+    /// HOST, and its place among the arguments.
     host: Option<(usize, &'a str)>,
-    /// A word comes after HOST.
+    /// Whether an argument comes after HOST.
     has_port: bool,
     /// The names of the options.
     names: Vec<&'a str>,
-    /// The next word is the value of an option.
+    /// The next argument is the value of an option.
     wants_value: bool,
-    /// No more words are options.
+    /// No more arguments are options.
     only_places: bool,
 }
 
 impl<'a> Given<'a> {
-    /// Reads these words. `None` if they are not those of `connect`, or ask for help.
+    /// Reads these arguments. It returns `None` if they are not those of `connect`, or ask for
+    /// help.
     pub(crate) fn new(alloc: Global, words: &'a [String]) -> Result<Option<Given<'a>>, AllocError> {
         let mut given = Given {
             host: None,
@@ -70,7 +71,7 @@ impl<'a> Given<'a> {
         Ok(Some(given))
     }
 
-    /// The host that is named, if one is.
+    /// Returns the host that is named, if one is.
     pub(crate) fn named(&self) -> Option<Named<'a>> {
         let (place, word) = self.host?;
         let has_port = self.has_port || self.has("port");
@@ -89,7 +90,7 @@ impl<'a> Given<'a> {
         })
     }
 
-    /// Whether an option of this name is given.
+    /// Returns whether an option of this name is given.
     pub(crate) fn has(&self, name: &str) -> bool {
         for given in &self.names {
             if *given == name {
@@ -157,7 +158,7 @@ impl<'a> Given<'a> {
     }
 }
 
-// The name of the option that has this letter; `q` and `w` have no other.
+// Returns the name of the option that has this letter; `q` and `w` have no other.
 fn name_of(letter: u8) -> &'static str {
     match letter {
         b'4' => "ipv4",

@@ -9,7 +9,7 @@ pub(crate) struct Part<'t> {
     pub(crate) line: usize,
 }
 
-/// The place of a name in the text, as a word of its own.
+/// Returns the place of a name in the text, as a word of its own.
 pub(crate) fn place_in(text: &[u8], name: &[u8]) -> Option<usize> {
     for place in 0..text.len() {
         let Some(rest) = text.get(place..) else {
@@ -22,7 +22,7 @@ pub(crate) fn place_in(text: &[u8], name: &[u8]) -> Option<usize> {
     None
 }
 
-// Whether the text before a word, or the text after it, makes it part of another word.
+// Returns whether the text before a word, or the text after it, makes it part of another word.
 fn is_joined(before: Option<&[u8]>, after: Option<&[u8]>) -> bool {
     let last = match before {
         Some(before) => before.last(),
@@ -42,7 +42,7 @@ fn is_of_word(byte: Option<&u8>) -> bool {
     }
 }
 
-/// The number of the line that this place is in.
+/// Returns the number of the line that this place is in.
 pub(crate) fn line_at(text: &[u8], place: usize) -> usize {
     let mut line = 1usize;
     for byte in text.get(..place).unwrap_or(text) {
@@ -53,7 +53,8 @@ pub(crate) fn line_at(text: &[u8], place: usize) -> usize {
     line
 }
 
-/// The part of the text from the header of this host's table to the next header, if it has such a header.
+/// Returns the part of the text from the header of this host's table to the next header, if it has
+/// such a header.
 pub(crate) fn part_of<'t>(text: &'t str, host: &str) -> Option<Part<'t>> {
     let mut begun = None;
     let mut place = 0usize;
@@ -76,8 +77,8 @@ fn cut<'t>(text: &'t str, begun: usize, end: usize) -> Option<Part<'t>> {
     })
 }
 
-/// The number of the line in which this host's table has this key; of its header, or of its name, if there is
-/// no such line.
+/// Returns the number of the line in which this host's table has this key; of its header, or of its
+/// name, if there is no such line.
 pub(crate) fn line_of(text: &str, host: &str, key: &str) -> usize {
     let bytes = text.as_bytes();
     let Some(part) = part_of(text, host) else {
@@ -93,14 +94,14 @@ pub(crate) fn line_of(text: &str, host: &str, key: &str) -> usize {
     part.line
 }
 
-// The name in the header of a table.
+// Returns the name in the header of a table.
 fn header_in(line: &str) -> Option<&str> {
     let rest = line.trim().strip_prefix('[')?;
     let (name, _) = rest.split_once(']')?;
     Some(unquoted(name.trim()))
 }
 
-// The key before an equals sign.
+// Returns the key before an equals sign.
 fn key_in(line: &str) -> Option<&str> {
     let (key, _) = line.split_once('=')?;
     Some(unquoted(key.trim()))

@@ -1,4 +1,4 @@
-//! A host's table, as words of the command line.
+//! A host's table, as arguments of the command line.
 
 use crate::hosts::expanding::HostsFault;
 use crate::hosts::file::HostsFile;
@@ -13,7 +13,7 @@ const PLAIN: &str = "plain";
 #[derive(Drop)]
 pub(crate) struct Saying<'t> {
     pub(crate) name: &'t str,
-    /// The word of the command line.
+    /// The argument of the command line.
     pub(crate) word: String,
     /// The number of its line.
     pub(crate) line: usize,
@@ -71,7 +71,7 @@ impl<'t> Entry<'t> {
         Ok(())
     }
 
-    /// The host and the port to connect to.
+    /// Returns the host to connect to.
     pub(crate) fn host(&self) -> &str {
         match &self.host {
             Some(saying) => saying.word.as_str(),
@@ -79,7 +79,7 @@ impl<'t> Entry<'t> {
         }
     }
 
-    /// Its port, if the table gives one.
+    /// Returns the port, if the table gives one.
     pub(crate) fn port(&self) -> Option<&str> {
         match &self.port {
             Some(saying) => Some(saying.word.as_str()),
@@ -88,7 +88,7 @@ impl<'t> Entry<'t> {
     }
 }
 
-// The words that a key and its value stand for.
+// The arguments that a key and its value stand for.
 #[derive(Drop)]
 enum Word {
     Said(String),

@@ -1,4 +1,4 @@
-//! The words that a program is started with.
+//! The arguments with which a program is started.
 
 use crate::hosts::expanding::{HostsFault, expand};
 use std::alloc::Global;
@@ -6,8 +6,8 @@ use std::env::Env;
 use std::fs::{File, Files};
 use std::io::Write;
 
-/// The word after `connect` by which the launcher asks for the words that a host of the user's file stands
-/// for, and gets each with a NUL after it.
+/// The argument after `connect` by which the launcher asks for the arguments that a host of the
+/// user's file stands for, and gets each with a NUL after it.
 const EXPAND: &str = "--expand";
 
 /// The statuses of a program that has no memory or cannot write, and of one whose file of hosts has a
@@ -16,13 +16,14 @@ const FAILED: u8 = 1;
 
 const MISTAKE: u8 = 2;
 
-/// Gives the words to run, for these words of a command line: those that they stand for by the user's file of
-/// hosts, unless they are expanded already.
+/// Returns the arguments to run, for these arguments of a command line: those that they stand for
+/// by the user's file of hosts, unless they are expanded already.
 ///
 /// # Errors
 ///
-/// The status to end with: 1 out of memory, and 2 if the file has a mistake, which is printed on standard
-/// error; 0 if the launcher asked for the words, which are written to `screen`.
+/// - Status 1: out of memory.
+/// - Status 2: the file has a mistake, which is printed on standard error.
+/// - Status 0: the launcher asked for the arguments, which are written to `screen`.
 pub fn start_with<R: Env + Files<File = File> + Eprint, W: Write>(
     rt: &R,
     alloc: Global,
@@ -47,7 +48,7 @@ pub fn start_with<R: Env + Files<File = File> + Eprint, W: Write>(
     Ok(words)
 }
 
-// Whether the launcher asks for the words.
+// Returns whether the launcher asks for the arguments.
 fn is_asked(words: &[String]) -> bool {
     is_at(words, 1, "connect") && is_at(words, 2, EXPAND)
 }
@@ -59,7 +60,7 @@ fn is_at(words: &[String], place: usize, word: &str) -> bool {
     }
 }
 
-// Tells why a host of the file stands for no words, and returns the status to end with.
+// Prints why a host of the file stands for no arguments, and returns the status to end with.
 fn tell<R: Eprint>(rt: &R, fault: &HostsFault) -> u8 {
     match fault {
         HostsFault::Memory => {
@@ -73,7 +74,8 @@ fn tell<R: Eprint>(rt: &R, fault: &HostsFault) -> u8 {
     }
 }
 
-// Prints each word but the program's name with a NUL after it, and returns the status to end with.
+// Prints each argument but the program's name with a NUL after it, and returns the status to end
+// with.
 fn print_words<R: Eprint, W: Write>(rt: &R, words: &[String], screen: &mut W) -> u8 {
     for word in words.get(1..).unwrap_or(words) {
         if screen.write_all(word.as_bytes()).is_err() || screen.write_all(b"\0").is_err() {

@@ -101,7 +101,7 @@ joined c p q h l =
       l.4 ∙ ap (λ (k : History). gets k l.1) first.4 ∙ sym (gets-append old first.1 l.1),
     )
 
--- and one is two, where its front has a reading
+-- one piece is two, if its front has a reading
 pub parted : (c : Course) (p q : List ℕ) (h : History) → (read : List Item) × (rest : List ℕ) × Reading (stream c ++ p) read rest → ReadsAs (fed c (p ++ q)) h
     → ReadsAs (fed (fed c p) q) h
 parted c p q h r (old, all, leads, reads, is) =
@@ -113,7 +113,7 @@ parted c p q h r (old, all, leads, reads, is) =
       is ∙ ap (gets old) t.whole ∙ gets-append old t.first t.second,
     )
 
--- nothing is left where nothing was fed
+-- nothing is left if nothing was fed
 none_left : (xs done left : List Item) → xs ≡ xs ++ (done ++ left) → left ≡ []
 none_left xs done left e = go left (append_cancel_left xs (done ++ left) [] (sym e ∙ sym (append-nil xs)))
   where

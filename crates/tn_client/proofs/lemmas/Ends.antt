@@ -1,4 +1,4 @@
--- What an end has, wherever it stands.
+-- The facts that hold of an end in any state.
 use Rattle.std.proofs.Common.{◌≡◌, ℕ, List, [], ◌∷◌, ◌++◌, length, drop, refl, sym, ap, ◌∙◌}
 use Rattle.tn_discipline.specs.Entries.{half_of}
 use Rattle.tn_client.specs.{Events.History, Lines.{edited_roles, ahead, half_line, held_bytes, line}, Calls.{End, LeadsTo}}
@@ -7,7 +7,7 @@ drop-front : (sent held : List ℕ) → drop (length sent) (sent ++ held) ≡ he
 drop-front [] held = refl
 drop-front (b ∷ bs) held = drop-front bs held
 
--- what is held comes after what is ahead
+-- the held bytes come after those ahead
 pub held_is : (h : History) (end : End) → LeadsTo h end → end.line.held ≡ held_bytes h
 held_is h end s =
     let whole : half_line h ≡ s.line.sent ++ end.line.held = ap (λ (n : ℕ). half_of n (edited_roles h)) (sym s.limit) ∙ s.line.bytes in

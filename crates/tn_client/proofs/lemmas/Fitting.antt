@@ -1,4 +1,4 @@
--- Each item that a client end says fits a stream.
+-- Each item that a client end sends fits a stream.
 use Rattle.std.proofs.{Common.{ℕ, Bool, true, false, not, ◌==◌, ◌&&◌, Option, Some, None, List, [], ◌∷◌, arith}, lemmas.List.Elements.All-cons}
 use Rattle.std.specs.Prelude.{All}
 use Rattle.tn_codes.specs.{Payloads.parameters_of, declared.{codes.Command.Command, masks.Mask.Mask, payloads.Payload.Payload}}
@@ -76,7 +76,7 @@ ending-fits true false bs = bytes-fit bs
 ending-fits true true bs = none
 ending-fits false after bs = none
 
--- What is said at an event fits.
+-- The items that are sent at an event fit.
 pub replies-fit : (h : History) (e : Event) → All Fits (replies h e)
 replies-fit h (typed key) = key-fits (edits (mode h)) (forward h) (role_at h key) (line h) false key
 replies-fit h entered = key-fits (edits (mode h)) (forward h) (role_at h lf) (line h) true lf
@@ -89,7 +89,7 @@ replies-fit h (resized width height) = unless (tells_size (options h) && not (is
 replies-fit h (proposed func value) = list-fits (triple_of func value ∷ []) (omega arith)
 replies-fit h (sent command) = one (Cmd (command_sent command)) tt
 
--- So does everything that was said.
+-- All items that were sent fit.
 pub sent-fits : (h : History) → All Fits (items_said h)
 sent-fits (begun width height limit) = none
 sent-fits (next h e) = both (items_said h) (replies h e) (sent-fits h) (replies-fit h e)

@@ -1,4 +1,4 @@
--- What holds of every history.
+-- Facts that hold of every history.
 use Rattle.std.proofs.Common.{◌≡◌, ◌≤◌, ℕ, min, ◌==◌, Bool, true, false, not, ◌&&◌, Option, None, List, [], ◌∷◌, ◌++◌, length, take, drop, refl, sym, ap, ◌∙◌}
 use Rattle.std.proofs.{Common.{if◌then◌else◌, append-nil, append_assoc, arith}, lemmas.List.take-append-drop}
 use Rattle.tn_codes.specs.declared.{masks.Mask.Mask, payloads.Payload.Payload}
@@ -22,7 +22,7 @@ pub gets-append : (h : History) (front back : List Item) → gets h (front ++ ba
 gets-append h [] back = refl
 gets-append h (x ∷ xs) back = gets-append (next h (got x)) xs back
 
--- WITHOUT EDIT nothing of a line is here
+-- WITHOUT EDIT the client holds nothing of a line
 pub unedited : (h : History) → edits (mode h) ≡ false → edited_roles h ≡ []
 unedited h e = ap (λ (b : Bool). if b then roles_under (traps (mode h)) h else []) e
 
@@ -45,8 +45,8 @@ unsent (next h _) e = unsent h e
 pub unedited-ahead : (h : History) → edits (mode h) ≡ false → ahead h ≡ 0
 unedited-ahead h e = ap least (unsent h e)
 
--- THE ROLES OF A HALF LINE, whichever end edits it
--- with EDIT it is told by which ISIG the keys were typed before
+-- THE ROLES OF A HALF-TYPED LINE, whichever end edits it
+-- with EDIT it is known by which ISIG the keys were typed before
 told_by_test : (a b : Bool) (edit after : Bool) (mask : ℕ) → edit ≡ false → after ≡ true
     → (if not edit && after then traps mask else a) ≡ (if not edit && after then traps mask else b)
 told_by_test a b true after mask e f = cc
@@ -97,7 +97,7 @@ edited-typed h key e =
     ∙ ap (λ (r : Role). roles_under (traps (mode h)) h ++ roles_from r) (role_same (traps (mode h)) h key e)
     ∙ ap (λ (rs : List Role). rs ++ roles_from (role_at h key)) (sym (edited-is h e))
 
--- and without
+-- a key without EDIT
 pub under-typed : (isig : Bool) (h : History) (key : ℕ) → edits (mode h) ≡ false
     → roles_under isig (next h (typed key)) ≡ roles_under isig h ++ roles_from (role_of_key (settings_by isig (chars h)) key)
 under-typed isig h key e =
@@ -190,7 +190,7 @@ ahead-typed h key e =
     ∙ least-with (is_sent_ahead h key) n before.0 before.1
     ∙ ap (λ (ns : List ℕ). if is_sent_ahead h key then n else min n (least ns)) (sym before.2)
 
--- and after an item
+-- after an item with EDIT
 pub ahead-stays : (h : History) (item : Item) → edits (mode h) ≡ true → edits (mode (next h (got item))) ≡ true → ahead (next h (got item)) ≡ ahead h
 ahead-stays h item e f =
     let n = length (half_line (next h (got item))) in

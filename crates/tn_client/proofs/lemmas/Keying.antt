@@ -1,4 +1,4 @@
--- What a key answers: it is edited here, or sent at once.
+-- The answer to a key: the client edits it, or sends it at once.
 use Rattle.std.proofs.Common.{◌≡◌, ◌⊎◌, inl, inr, ℕ, Bool, true, false, Result, Ok, Err, OnOk, OnErr, IsOk, IsErrOf, List, ◌++◌, length, Vec, refl, sym, ◌∙◌, subst}
 use Rattle.tn_discipline.specs.HalfLine.{GivesText}
 use Rattle.tn_linemode.specs.Modes.{edits}
@@ -6,7 +6,7 @@ use Rattle.tn_nvt.specs.{Room.LacksRoom, Spelling.spells, declared.items.Item.It
 use Rattle.tn_client.specs.{Calls.End, Replies.typed_items, Steps.{role_now, line_typed, count_typed, end_after_key, says_typed, shows_key, LacksMemoryBy}}
 use Rattle.tn_client.specs.{Lines.key_settings, Screen.key_shown, Terms.is_echoed, declared.faults.ClientFault.{ClientFault, TheVariants.Memory}}
 
--- the end after a key, what it says and what it shows, by whether the end edits
+-- the end after a key, what it sends and what it shows, by whether the end edits
 abbrev pub end_by : Bool → End → ℕ → End
 end_by edit old key =
     record old {
@@ -21,7 +21,7 @@ says_by edit old key item = typed_items edit old.forward (role_now old key) old.
 abbrev pub shows_by : Bool → End → ℕ → List ℕ
 shows_by edit old key = key_shown (is_echoed old.options) edit (key_settings old.mode old.table) (role_now old key) old.line key
 
--- what holds of a key that was typed holds of an answer that is no refusal
+-- a fact of a key that was typed holds of an answer that is no refusal
 pub done : {A E T P Q : Type 0} (typed : Result A E) (answer : Result T ClientFault) → OnErr typed (IsErrOf answer Memory) → OnOk typed P → (P → Q)
     → OnOk answer Q
 done (Ok x) (Ok y) none p f = f p
@@ -45,7 +45,7 @@ module _ {A E T : Type 0} (edit : Bool) (typed : Result A E) (answer : Result T 
   pub key_shown_by : (seen now : List ℕ) → OnOk typed (now ≡ seen ++ shows_by edit old key) → OnOk answer (now ≡ seen ++ shows_key old key)
   key_shown_by seen now is = done typed answer none is (subst (λ (b : Bool). now ≡ seen ++ shows_by b old key) (sym by))
 
--- what a key lacks that is edited here
+-- the memory that a key lacks which the client edits
 pub edited_lacks : {A E T Y Z : Type 0} (typed : Result A E) (answer : Result T ClientFault) (old : End) (key : ℕ) (item : Item) (out : Vec ℕ Y) (screen : Vec ℕ Z)
     → edits old.mode ≡ true → OnOk typed (IsOk answer) → OnErr typed (LacksRoom out (length (spells (says_by true old key item)))
     ⊎ (LacksRoom screen (length (shows_by true old key)) ⊎ GivesText old.line (role_now old key))) → IsErrOf answer Memory

@@ -69,6 +69,6 @@ pub end_next : (h : History) (e : Event) → end_at (next h e) ≡ record (end_a
 end_next h e =
     ap (λ (x : End). record x { decoder = failed; failed = false }) (sym (end_is (next h e) (end_after (end_at h) e) (stands h (end_at h) e (stands_there h))))
 
--- and its half line
+-- the half-typed line after one event more
 pub line_next : (h : History) (e : Event) → line (next h e) ≡ (end_after (end_at h) e).line
 line_next h e = ap (λ (x : End). x.line) (end_next h e)

@@ -1,4 +1,4 @@
--- Where an event leads, from a history to the end.
+-- The end to which an event leads from a history.
 use Rattle.std.proofs.Common.{◌≡◌, ℕ, Bool, true, false, min, Option, List, [], ◌∷◌, ◌++◌, length, refl, sym, ap, ◌∙◌, if◌then◌else◌, subst, append-nil}
 use Rattle.std.proofs.Common.{append_assoc}
 use Rattle.tn_codes.specs.declared.masks.Mask.{Mask}
@@ -30,7 +30,7 @@ same_role m n c d key a b = ap (λ (x : ℕ). role_of_typed x c key) a ∙ ap (�
 pub role_is : (h : History) (old : End) (key : ℕ) → LeadsTo h old → role_now old key ≡ role_at h key
 role_is h old key s = same_role old.mode (mode h) old.table (chars h) key s.mode s.table
 
--- what is sent ahead stays in the half line
+-- the bytes that are sent ahead stay in the half-typed line
 sent_leaves : (sends : Bool) (roles : List Role) (l : HalfLine) → discipline.LeadsTo roles l → discipline.LeadsTo roles (line_sent sends l)
 sent_leaves true roles l leads = released_keeps l roles leads
 sent_leaves false roles l leads = leads
@@ -45,7 +45,7 @@ typed_leaves h old key true e s =
     (sent_leaves (is_sent_now old.forward l r) (edited_roles h ++ roles_from r) (line_after l r) ((advances l r).half (edited_roles h) s.line))
 typed_leaves h old key false e s = subst (λ (rs : List Role). discipline.LeadsTo rs old.line) (unedited h e ∙ sym (unedited (next h (typed key)) e)) s.line
 
--- the count of a half line that the server edits
+-- the count of a half-typed line that the server edits
 typed_count : (isig : Bool) (h : History) (old : End) (key count : ℕ) (b : Bool) → edits (mode h) ≡ b → LeadsTo h old → count ≡ count_under isig h
     → count_typed b isig old count key ≡ count_under isig (next h (typed key))
 typed_count isig h old key count true e s is = is ∙ count-none isig h e ∙ sym (count-none isig (next h (typed key)) e)
@@ -64,7 +64,7 @@ sent_least : (sends : Bool) (l : HalfLine) (r : Role) → (line_sent sends (line
 sent_least true l r = refl
 sent_least false l r = after_least l r
 
--- the line is as long as the half line of the history
+-- the line is as long as the half-typed line of the history
 long_typed : (h : History) (old : End) (key : ℕ) → edits (mode h) ≡ true → LeadsTo h old
     → line_length (line_after old.line (role_now old key)) ≡ length (half_line (next h (typed key)))
 long_typed h old key e s =
@@ -76,7 +76,7 @@ long_typed h old key e s =
     ∙ ap (λ (x : Role). length (half_of (line_limit h) (edited_roles h ++ roles_from x))) (role_is h old key s)
     ∙ ap (λ (rs : List Role). length (half_of (line_limit h) rs)) (sym (edited-typed h key e))
 
--- and the key sends what it sends in the history
+-- the key sends what it sends in the history
 sent_typed : (h : History) (old : End) (key : ℕ) → LeadsTo h old → is_sent_now old.forward old.line (role_now old key) ≡ is_sent_ahead h key
 sent_typed h old key s =
     let l = old.line in
@@ -156,7 +156,7 @@ shows_typed h old key s =
     (sym (line_is h old s))
 
 -- AN ITEM
--- how many bytes are ahead where EDIT begins
+-- the number of bytes ahead when EDIT begins
 told_count : (h : History) (old : End) (isig : Bool) → edits (mode h) ≡ false → LeadsTo h old
     → (if isig then old.trapped else old.plain) ≡ length (half_of (line_limit h) (roles_under isig h))
 told_count h old true e s = s.trapped ∙ count-is true h e

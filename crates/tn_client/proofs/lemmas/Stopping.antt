@@ -1,4 +1,4 @@
--- What a refused piece leaves, seen from the piece's items.
+-- The end that a refused piece leaves, seen from the piece's items.
 use Rattle.std.proofs.Common.{◌≡◌, ℕ, List, [], ◌∷◌, ◌++◌, sym, ap, ◌∙◌, subst, append_assoc}
 use Rattle.tn_nvt.specs.{Feeding.DecoderState, declared.items.Item.Item}
 use Rattle.tn_linemode.proofs.lemmas.Reading.{stopped_in}
@@ -6,7 +6,7 @@ use Rattle.tn_client.specs.{Course.{Course, fed, stream, ReadsAs, CourseLeadsTo}
 use Rattle.tn_client.specs.{Events.{History, items, gets}, Replies.items_said, Screen.text_shown, Answering.{IsStopCause, StopsWithin}, Stopping.StopsBetween}
 use Rattle.tn_client.proofs.lemmas.{Courses.one_history, Histories.gets-append, Gathering.{says_both, shown_both}, Standings.{says_all, shows_all}}
 
--- a prefix of the first reply is a prefix of all that the items make the end say
+-- a prefix of the first reply is a prefix of the replies to all items
 pub front_said : (end : End) (left more part : List Item) (here : DecoderState) (back : List ℕ) → IsStopCause end left part here back → (unsaid : List Item)
     × (says_items end (left ++ more) ≡ part ++ unsaid)
 front_said end [] more part here back why = (says_items end more, ap (λ (xs : List Item). xs ++ says_items end more) (sym why.0))

@@ -1,4 +1,4 @@
--- What lacks memory says or shows something.
+-- An item that lacks memory sends or shows something.
 use Rattle.std.proofs.Common.{◌≡◌, ◌≢◌, ◌⊎◌, inl, inr, ℕ, Bool, true, false, Option, List, [], ◌∷◌, ◌++◌, Vec, sym, subst, if◌then◌else◌}
 use Rattle.tn_codes.specs.declared.codes.Command.TheVariants as command
 use Rattle.tn_codes.specs.declared.masks.Mask.{Mask}

@@ -1,4 +1,4 @@
--- The option words of a client end are those of its option engine, which starts none itself.
+-- The option messages of a client end are those of its option engine, which sends none of its own accord.
 use Rattle.std.proofs.Common.{◌≡◌, ℕ, Bool, true, false, not, ◌&&◌, Option, None, Some, List, [], ◌∷◌, ◌++◌, refl, sym, ap, ◌∙◌, if◌then◌else◌, append-nil}
 use Rattle.std.proofs.{Common.{subst, append_assoc}, lemmas.List.append_cancel_left}
 use Rattle.tn_codes.specs.declared.{codes.{Command.Command, Verb.Verb}, masks.Mask.Mask, payloads.Payload.Payload}
@@ -17,11 +17,11 @@ use Rattle.tn_client.specs.Replies.{new_size_items, payload_answers, answer_item
 use Rattle.tn_client.specs.Terms.{options, mode, forward, chars, size, tells_size, payload_at, options_after, mode_at}
 use Rattle.tn_client.proofs.lemmas.Standings.{says_as, says_all, stands_fed}
 
--- the options of a server and of its client, and the words that are on their way to each
+-- the options of a server and of its client, and the messages that are on their way to each
 abbrev pub pair : Options → Options → List (Verb × ℕ) → List (Verb × ℕ) → EnginePair
 pair here there to_here to_there = record { here = here; there = there; to_here = to_here; to_there = to_there }
 
--- WHAT IS NO OPTION WORD
+-- ITEMS THAT ARE NO OPTION MESSAGE
 none_first : (xs ys : List Item) → words_in xs ≡ [] → words_in (xs ++ ys) ≡ words_in ys
 none_first xs ys a = words_in-append xs ys ∙ ap (λ (t : List (Verb × ℕ)). t ++ words_in ys) a
 
@@ -82,7 +82,7 @@ ending_none true false bytes = bytes_none bytes
 ending_none true true bytes = refl
 ending_none false after bytes = refl
 
--- AN ITEM: an option word is answered
+-- AN ITEM: an option message is answered
 answer_moves : (here o : Options) (m : ℕ) (c : Characters) (z : ℕ × ℕ) (item : Item) (ws vs : List (Verb × ℕ))
     → Moves (pair here o ws (words_in (item ∷ []) ++ vs)) (pair here (options_after o item) (ws ++ words_in (answer_items o m c z item)) vs)
 answer_moves here o m c z (Neg verb option) ws vs = (
@@ -139,7 +139,7 @@ gets_moves h (item ∷ items) here ws vs =
       ),
     )
 
--- CALLS of the owner say no word, and leave the options
+-- CALLS of the owner send no option message, and leave the options
 call_none : (h : History) (e : Event) → IsCall e → words_in (replies h e) ≡ []
 call_none h (typed key) is = key_none (edits (mode h)) (forward h) (role_at h key) (line h) false key
 call_none h entered is = key_none (edits (mode h)) (forward h) (role_at h lf) (line h) true lf

@@ -1,4 +1,4 @@
--- The relation and the function say the same of parameters.
+-- The relation and the function agree on parameters.
 use Rattle.std.proofs.Common.{◌≡◌, ℕ, List, Some}
 use Rattle.tn_codes.specs.{declared.payloads.Payload.Payload, Payloads.Says, PayloadOf.payload_of}
 use Rattle.tn_codes.proofs.Telling as inner

@@ -8,14 +8,14 @@ pub first_cases : (a b : Ended) → (first_end a b ≡ a) ⊎ (first_end a b ≡
 first_cases HangUp b = inr refl
 first_cases _ b = inl refl
 
--- it ended so before, or by this
+-- the end is as it was, or came by this message
 abbrev pub Moves : Ended → (Ended → Type 0) → Ended → Type 0
 Moves was By e = (e ≡ was) ⊎ By e
 
 pub moves_as : (was : Ended) (By : Ended → Type 0) (e d : Ended) → d ≡ e → Moves was By e → Moves was By d
 moves_as was By e d is moves = subst (λ (x : Ended). Moves was By x) (sym is) moves
 
--- after something by which another end would count, had none come
+-- the first end stays after something by which another end would count, had none come
 pub moves_first : (was : Ended) (By : Ended → Type 0) (a e : Ended) (f : SessionFault) → e ≡ first_end a (Fault f) → Moves was By a → By (Fault f)
     → Moves was By e
 moves_first was By a e f is before why = ⊎_elim (λ s. moves_as was By a e (is ∙ s) before) (λ s. moves_as was By (Fault f) e (is ∙ s) (inr why))
@@ -47,7 +47,7 @@ run_moves {S} {M} Steps EndsBy ended_of one (m ∷ all) c new f =
     }))
     (run_moves Steps EndsBy ended_of one all f.0 new f.2)
 
--- where none had come, a fault came by one of the messages
+-- if none had come, a fault came by one of the messages
 pub fault_came : {S M : Type 0} (Steps : S → M → S → Type 0) (EndsBy : S → M → Ended → Type 0) (ended_of : S → Ended)
     → ((c new : S) (m : M) → Steps c m new → Moves (ended_of c) (EndsBy c m) (ended_of new)) → (all : List M) (c new : S) (f : SessionFault)
     → FoldsTo Steps c all new → ended_of c ≡ HangUp → ended_of new ≡ Fault f → IsEndedAt Steps EndsBy c all (Fault f)

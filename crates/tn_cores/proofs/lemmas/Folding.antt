@@ -1,4 +1,4 @@
--- What holds all along a run of messages, and what it takes of what they bring.
+-- The facts that hold all along a run of messages, and what it takes of what they bring.
 use Rattle.std.proofs.Common.{◌≡◌, Bool, true, false, List, [], ◌∷◌, ◌++◌, map, refl, sym, ap, ◌∙◌, subst, append_assoc}
 use Rattle.std.specs.List.{FoldsTo, flat_map}
 use Rattle.tn_cores.specs.Pieces.{TakesFront}
@@ -6,7 +6,7 @@ use Rattle.tn_cores.specs.Pieces.{TakesFront}
 true_false : true ≡ false → ⊥
 true_false e = cc
 
--- what each step keeps
+-- a fact that each step keeps
 pub run_keeps : {S M : Type 0} (Steps : S → M → S → Type 0) (Holds : S → Type 0) → ((c new : S) (m : M) → Steps c m new → Holds c → Holds new)
     → (all : List M) (c new : S) → FoldsTo Steps c all new → Holds c → Holds new
 run_keeps Steps Holds one [] c new f h = subst Holds f h

@@ -1,4 +1,4 @@
--- Pieces that were read in part, and what was said or read before.
+-- Pieces that were read in part, and what was sent or read before.
 use Rattle.std.proofs.{Common.{◌≡◌, ℕ, ◌<◌, All, List, [], ◌++◌, refl, sym, ap, ◌∙◌, subst, append-nil, append_assoc}, lemmas.List.Elements.All-append}
 use Rattle.tn_cores.specs.{Pieces.bytes_in, declared.messages.Message.{Message, TheVariants.Piece}}
 use Rattle.tn_nvt.proofs.lemmas.Reading.{has_reading, reads_on, spells-append}
@@ -20,18 +20,18 @@ read_on stream piece front back had done left known small whole before =
     let Q : List Item → Type 0 = λ ys. Reading (stream ++ piece) ys all.1 in
     (more, (all.1, subst Q is_all all.2))
 
--- a decoder that stays where it is has read the same
+-- a decoder that stays where it is has read nothing more
 pub read_as : (old new : DecoderState) (stream : List ℕ) (had now : List Item) → new ≡ old → now ≡ had → nvt.LeadsTo stream had old → nvt.LeadsTo stream now new
 read_as old new stream had now e f r =
     let P : DecoderState → Type 0 = λ d. nvt.LeadsTo stream now d in
     let Q : List Item → Type 0 = λ xs. nvt.LeadsTo stream xs old in
     subst P (sym e) (subst Q (sym f) r)
 
--- where nothing was appended before
+-- if nothing was appended before
 pub from_none : (x y part : List ℕ) → x ≡ [] → y ≡ x ++ part → y ≡ part
 from_none x y part none is = is ∙ ap (λ (bs : List ℕ). bs ++ part) none
 
--- all that is said more is spelled
+-- all that is sent more is spelled
 pub all_spelled : (had now said : List Item) → now ≡ had ++ said → spells now ≡ spells had ++ (spells said ++ [])
 all_spelled had now said e = ap spells e ∙ spells-append had said ∙ ap (λ (bs : List ℕ). spells had ++ bs) (sym (append-nil (spells said)))
 

@@ -1,4 +1,4 @@
--- What one message does.
+-- The effect of one message.
 use Rattle.std.proofs.Common.{◌≡◌, ◌<◌, All, ℕ, Bool, true, false, if◌then◌else◌, Option, Some, None, Result, Ok, Err, OnOk, OnErr, List, [], ◌++◌, refl, sym}
 use Rattle.std.proofs.{Common.{ap, ◌∙◌, subst, append-nil, append_assoc}, lemmas.List.Elements.{All-append, All-nil}}
 use Rattle.tn_client.proofs.lemmas.{Gathering.{says_both, shown_both}, Standings.{stands, says_as, displays_as, says_all, shows_all, stands_fed, fed_failed}}
@@ -271,7 +271,7 @@ stops_resize from size old new x y u on is same = record {
       );
 }
 
--- what is asked for is a call
+-- a request is a call
 asked_calls : (command : Option UserCommand) → IsCall (event_by command)
 asked_calls (Some command) = tt
 asked_calls None = tt
@@ -322,7 +322,7 @@ does_not_send control old x u on = record {
       );
 }
 
--- where it shows nothing, whatever was shown before
+-- if it shows nothing, for any text that was shown before
 pub shows_ok : {T E : Type 0} (r : Result T E) (P : List ℕ → Type 0) (seen : List ℕ) → OnOk r ((u : List ℕ) → P u) → OnOk r (P seen)
 shows_ok (Ok x) P seen h = h seen
 shows_ok (Err e) P seen h = tt
@@ -345,7 +345,7 @@ acts_plain c from (Resized size) plain = absurd plain
 acts_plain c from (Asked control) plain = absurd plain
 acts_plain c from _ plain = refl
 
--- where more goes to the network than before, nothing had been closed
+-- if more goes to the network than before, nothing had been closed
 still_open : (from : Origin) (m : Message) (p : ClientProgress) → (after_message from m p).closed ≡ false → p.closed ≡ false
 still_open Net HangUp p e = e
 still_open Net ReadFailed p e = e
@@ -366,7 +366,7 @@ still_open Net (Resized size) p e = e
 still_open Keys (Asked control) p e = e
 still_open Net (Asked control) p e = e
 
--- and what is closed stays so
+-- a network that is closed stays closed
 pub stays_closed : (from : Origin) (m : Message) (p : ClientProgress) → p.closed ≡ true → (after_message from m p).closed ≡ true
 stays_closed from m p e = by (after_message from m p).closed refl
   where

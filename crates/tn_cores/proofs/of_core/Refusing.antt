@@ -28,7 +28,7 @@ only_memory end f runs why = by_test end.failed runs why
     by_test true e cause = absurd (true_false e)
     by_test false e cause = cause
 
--- what the end says and shows is what its history does
+-- the end sends and shows what its history does
 says_there : (h : History) (end : End) (e : Event) → client.LeadsTo h end → steps.SaysOrShows end e → SaysOrShows h e
 says_there h end e s (inl some) = inl (λ none. some (sym (says_as h end e s) ∙ none))
 says_there h end e s (inr some) = inr (λ none. some (sym (displays_as h end e s) ∙ none))

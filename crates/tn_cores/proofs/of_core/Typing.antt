@@ -28,7 +28,7 @@ shown-types h (k ∷ ks) =
     let r = shown-types (next h (typed k)) ks in
     (shows h (typed k) ++ r.0, r.1 ∙ append_assoc (text_shown h) (shows h (typed k)) r.0)
 
--- what the rest of the keys would have made the end say and show
+-- the items and bytes that the rest of the keys would have made the end send and show
 pub said_front : (h : History) (keys front back : List ℕ) (said : List Item) → keys ≡ front ++ back → items_said (types h front) ≡ items_said h ++ said
     → (rest : List ℕ) × (spells (items_said (types h keys)) ≡ spells (items_said h) ++ (spells said ++ rest))
 said_front h keys front back said e f =

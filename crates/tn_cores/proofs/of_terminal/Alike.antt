@@ -18,7 +18,7 @@ use Rattle.tn_server.specs.Terms.{Terms, terms, terms_after, terms_by, options, 
 use Rattle.tn_server.specs.Terms.{asked_mask_of, asks_echo, echoes, linemode, mask_told, options_with_echo, payload_at, wants_echo, wish_after, wish_at}
 use Rattle.tn_cores.specs.server.Run.{flushed_history}
 
--- THE SAME LINES
+-- EQUAL LINES
 
 -- the flags, but for ECHO, which has no part in the lines
 abbrev unechoed : Flags → Flags
@@ -35,7 +35,7 @@ pub record SameLines (h k : History) : Type 0 where
 pub lines_self : (h : History) → SameLines h h
 lines_self h = record { roles_are = refl; limit_is = refl; them_are = refl; flags_are = refl; chars_are = refl; mode_is = refl }
 
--- the server's word for ECHO leaves the client's options as they are
+-- the server's message for ECHO leaves the client's options as they are
 echo_keeps_them : (due wanted : Bool) (o : Options) → (options_with_echo due wanted o).them ≡ o.them
 unfolding options_after_wish
 echo_keeps_them true wanted o = refl
@@ -109,7 +109,7 @@ lines_got h k x s =
       mode_is = λ i. mask_after (differ (was i) (on i)) (s.mode_is i) (payload i);
     }
 
--- what the owner does leaves the lines as they are
+-- the owner's calls leave the lines as they are
 pub lines_took : (h k : History) → SameLines h k → SameLines (next h took) k
 lines_took h k s = record {
   roles_are = s.roles_are;
@@ -160,7 +160,7 @@ lines_parts h k (part ∷ parts) s = lines_parts (flushed_history (next h (wrote
 pub same_entries : (h k : History) → SameLines h k → entries h ≡ entries k
 same_entries h k s = λ i. entries_of (s.limit_is i) (s.roles_are i)
 
--- the lines are those of the items alone
+-- the lines are those of the items
 abbrev pub OfItems : History → History → Type 0
 OfItems first h = SameLines h (gets first (items h))
 
@@ -180,7 +180,7 @@ items_parts h (part ∷ parts) = items_parts (flushed_history (next h (wrote par
 
 -- ALL THAT AN END DOES
 
--- of these, nothing tells one from the other but the parts in which texts were written
+-- the two histories differ at most in the parts in which texts were written
 pub record Alike (h k : History) : Type 0 where
   pub lines : SameLines h k
   pub terms_are : terms h ≡ terms k
@@ -191,8 +191,6 @@ pub record Alike (h k : History) : Type 0 where
   pub items_are : items h ≡ items k
   pub said : items_said h ≡ items_said k
   pub opened : opening_settings h ≡ opening_settings k
-
-}
 
 -- the settings of alike histories
 settings_by : (h k : History) → Alike h k → settings h ≡ settings k
@@ -219,14 +217,10 @@ pub alike_gets : (h k : History) (xs : List Item) → Alike h k → Alike (gets 
 alike_gets h k [] a = a
 alike_gets h k (x ∷ xs) a = alike_gets (next h (got x)) (next k (got x)) xs (alike_got h k x a)
 
-}
-
-}
-
 pub none_left : (h : History) → queue (flushed_history h) ≡ []
 none_left h = drop_all (length (queue h)) (queue h) (omega arith)
 
--- GA is due where more was sent
+-- GA is due if more was sent
 or_more : (a b c : Bool) (m n : ℕ) → b ≡ (a || nat_lt 0 m) → c ≡ (b || nat_lt 0 n) → c ≡ (a || nat_lt 0 (m + n))
 or_more true b c m n e f = f ∙ ap (λ (u : Bool). u || nat_lt 0 n) e
 or_more false b c zero n e f = f ∙ ap (λ (u : Bool). u || nat_lt 0 n) e ∙ ap (λ (k : ℕ). nat_lt 0 k) (let same : n ≡ 0 + n = omega arith in same)

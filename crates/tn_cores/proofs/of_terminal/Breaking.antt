@@ -1,4 +1,4 @@
--- What is left where a call is refused.
+-- The state that is left if a call is refused.
 use Rattle.std.proofs.Common.{◌≡◌, ℕ, Bool, true, false, List, [], ◌∷◌, ◌++◌, Option, Result, Ok, Err, IfOk, IfErr, refl, sym, ap, ◌∙◌, subst, append-nil}
 use Rattle.std.proofs.{Common.{append_assoc, length, arith, ◌<◌, All}, lemmas.List.Elements.{All-nil, All-cons}}
 use Rattle.std.specs.List.{concat}
@@ -45,7 +45,7 @@ pub grows_ask_if : (b : Bool) (c : Run) → Grows c.history (ask_if b c).history
 grows_ask_if true c = grows_ask c
 grows_ask_if false c = grows_none c.history
 
--- what more is sent is spelled after
+-- the items that are sent more are spelled after the others
 pub spelled_more : (h k : History) → Grows h k → (rest : List ℕ) × (spells (items_said k) ≡ spells (items_said h) ++ rest)
 spelled_more h k (more, e) = (spells more, ap spells e ∙ spells-append (items_said h) more)
 
@@ -85,7 +85,7 @@ breaks_after f g a b d x y z p q one two = record {
   puts = λ c at. two.puts (f c) (one.leads c at) ∙ ap (λ (ps : List (Option Entry)). ps ++ q) (one.puts c at) ∙ append_assoc c.puts p q;
 }
 
--- what would have come after sends more, and changes nothing else
+-- the steps that would have come after send more, and change nothing else
 pub breaks_before : (f g : Run → Run) (a b : Term) (x y : List ℕ) (p : List (Option Entry)) → ((c : Run) → Grows c.history (g c).history)
     → ((c : Run) → (g c).progress ≡ c.progress) → ((c : Run) → (g c).puts ≡ c.puts) → BreaksOff f a x y p b → BreaksOff (λ c. g (f c)) a x y p b
 breaks_before f g a b x y p grows stays puts one = record {

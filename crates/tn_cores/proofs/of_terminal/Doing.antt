@@ -1,4 +1,4 @@
--- What the actor does, one thing after another.
+-- The steps of the actor, one after another.
 use Rattle.std.proofs.{lemmas.List.Elements.{All-append, All-nil}, Common.append_assoc}
 use Rattle.std.proofs.Common.{◌≡◌, ◌<◌, All, ℕ, Bool, true, false, List, [], ◌∷◌, ◌++◌, Option, Some, None, MatchOption, refl, sym, ap, ◌∙◌, subst, append-nil}
 use Rattle.tn_discipline.specs.{declared.reads.Entry.Entry, Canon.Canon}
@@ -62,7 +62,7 @@ does_same f g a b x y p same one = record {
   puts = λ c at. ap (λ (d : Run). d.puts) (same c at) ∙ one.puts c at;
 }
 
--- the history alone goes on
+-- a step in which only the history goes on
 pub does_follow : (path : History → History) (old new : Term) (end : End) (before after : List ℕ) → old.progress.over ≡ false → new ≡ record old { end = end }
     → FollowsPath path old.end before after end → AdvancesRun (λ c. record c { history = path c.history }) old before after [] new
 does_follow path old new end before after on is f =
@@ -170,7 +170,7 @@ pub does_jobs : (turn : Jobs → Jobs) (step : ServerProgress → ServerProgress
     → AdvancesRun (λ c. record { history = c.history; stream = c.stream; puts = c.puts ++ put; jobs = turn c.jobs; progress = step c.progress }) old x x put new
 does_jobs turn step put old new x on is = does_all (λ h. h) turn step put old new old.end x x on is (follows_none old.end x)
 
--- jobs and progress alone change
+-- a step in which only jobs and progress change
 pub does_turn : (turn : Jobs → Jobs) (step : ServerProgress → ServerProgress) (old new : Term) (x : List ℕ) → old.progress.over ≡ false
     → new ≡ record old { table = turn old.table; progress = step old.progress }
     → AdvancesRun (λ c. record c { jobs = turn c.jobs; progress = step c.progress }) old x x [] new
@@ -215,7 +215,7 @@ is_over c t off is = record {
     true_false : true ≡ false → ⊥
     true_false e = cc
 
--- nothing has any effect from here on
+-- nothing has any effect from this message on
 does_halt : (old new : Term) (put : List (Option Entry)) (x : List ℕ) → new ≡ record old { progress = after_halt old.progress } → put ≡ end_if old.progress.asks
     → AdvancesRun halt old x x put new
 does_halt old new put x is puts = record {

@@ -1,4 +1,4 @@
--- What is typed is echoed as the job in the foreground asked.
+-- Typed keys are echoed as the job in the foreground asked.
 use Rattle.std.proofs.Common.{◌≡◌, ℕ, Bool, true, false, ◌&&◌, Option, Some, None, List, [], ◌∷◌, refl, ap, ◌∙◌}
 use Rattle.tn_discipline.specs.declared.termios.Flags.{Flags}
 use Rattle.tn_jobs.specs.declared.verdicts.Verdict.{Verdict}

@@ -1,4 +1,4 @@
--- A run ends by a fault only where its cause was there.
+-- A run ends by a fault only if its cause was there.
 use Rattle.std.proofs.Common.{◌≡◌, ◌⊎◌, inl, inr, ⊎_elim, ℕ, Bool, true, false, ◌&&◌, Option, Some, None, List, refl, sym, ap, ◌∙◌, subst}
 use Rattle.tn_discipline.specs.Canon.{Canon}
 use Rattle.tn_jobs.specs.{Jobs.Jobs, declared.verdicts.{JobState.JobState, Verdict.Verdict}}

@@ -1,4 +1,4 @@
--- Each message is handled as its definition says.
+-- Each message is handled as its definition states.
 use Rattle.std.proofs.Common.{◌≡◌, ℕ, Bool, true, false, not, ◌&&◌, ◌==◌, length, arith, List, [], ◌∷◌, ◌++◌, Option, Some, None, Result, Ok, Err, IfOk, IfErr}
 use Rattle.std.proofs.Common.{refl, sym, ap, ◌∙◌, subst, append-nil}
 use Rattle.tn_discipline.specs.declared.reads.Entry.{Entry}
@@ -220,7 +220,7 @@ stops_piece piece asks old mid last new x y z w put on is after_piece asked stuc
     (puts_of put) (λ c at. ap (λ (b : Bool). flush (ask_if b (feed piece after_piece.items c))) (asks_as c old asks is at)) all
     )
 
--- what a message that gave nothing leaves: its request waits
+-- the run after a message that gave nothing: its request waits
 unput_piece : (b : Bool) (c d : Run) → (record ((ask_if b d).progress) { asks = c.progress.asks; entries = c.progress.entries })
     ≡ (record (d.progress) { asks = c.progress.asks; entries = c.progress.entries })
 unput_piece false c d = refl
@@ -363,7 +363,7 @@ module _ (id : JobId) (text : List ℕ) (after : After) (echo : Option Bool) (ol
       (breaks_same (λ c. after_said id.0 two.parts found (turn_echo echo c)) (whole two.parts) old new x z (puts_of put) (same_whole two.parts)
       (breaks_after (turn_echo echo) (after_said id.0 two.parts found) old mid new x y z [] (puts_of put) one two.breaks))
 
--- if the client is told of the echo, the job goes on in the foreground
+-- if the echo is announced to the client, the job goes on in the foreground
 goes_on : (h : History) (state : Option JobState) (has stops : Bool) (after : After) → TellsEcho (echo_by (is_foreground state) after) h
     → verdict_at state has after stops ≡ Some (record { write = has; next = job.Foreground })
 goes_on h (Some job.Foreground) has stops Hide tells = refl
@@ -382,7 +382,7 @@ any_parts : (b : Bool) (text : List ℕ) → (parts : List (List ℕ)) × Cuts b
 any_parts true text = let s = in_single text in (s.0, (s.1, s.2))
 any_parts false text = ([], refl)
 
--- it could not be told
+-- the echo could not be announced to the client
 pub stops_echo : (id : JobId) (text : List ℕ) (after : After) (echo : Option Bool) (old new : Term) (x y : List ℕ) → old.progress.over ≡ false
     → echo ≡ echo_by (is_foreground (state_at old.table id.0)) after → new ≡ old → y ≡ x → ((c : Run) → LeadsTo c old → TellsEcho echo c.history)
     → StopsWithin old (Said id text after) false x y Nothing new

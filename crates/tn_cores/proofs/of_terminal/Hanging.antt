@@ -1,4 +1,4 @@
--- Where a hang-up ends the run, all entries were put before the end.
+-- If a hang-up ends the run, all entries were put before the end.
 use Rattle.std.proofs.Common.{◌≡◌, ◌≢◌, ℕ, ◌+◌, nat_lt, Bool, true, false, ◌&&◌, Option, Some, None, List, [], ◌∷◌, ◌++◌, length, drop, map, refl, sym, ap, ◌∙◌}
 use Rattle.std.proofs.Common.{subst, append-nil, append_assoc, drop-drop, if◌then◌else◌}
 use Rattle.std.specs.List.{FoldsTo}
@@ -46,7 +46,7 @@ cons_some e None es is = absurd (none_some is)
     none_some is = cc
 cons_some e (Some fs) es is = (fs, refl, cc)
 
--- it stays the first
+-- the first end stays the first if more is put
 end_stays : (ps qs : List (Option Entry)) (es : List Entry) → before_end ps ≡ Some es → before_end (ps ++ qs) ≡ Some es
 end_stays [] qs es is = cc
 end_stays (None ∷ ps) qs es is = is
@@ -180,7 +180,7 @@ record Calm (id : ℕ) (c : Run) : Type 0 where
   ends : Ends c.progress.at_end c.puts (entries c.history)
   front : state_at c.jobs id ≡ Some job.Foreground
 
--- what the message did, in such a run
+-- the effect of the message, in such a run
 record CalmOn (id : ℕ) (m : Message) (c new : Run) : Type 0 where
   calm : Calm id new
   at_end : new.progress.at_end ≡ at_end_after c.progress.at_end m
@@ -205,7 +205,7 @@ calm_echo id None c s = record { on = s.on; gives = s.gives; asks = s.asks; ends
 calm_echo id (Some on) c s =
     record { on = s.on; gives = record { all = s.gives.all; taken = s.gives.taken }; asks = s.asks; ends = s.ends; front = s.front }
 
--- where no entry waits, asking takes none
+-- if no entry waits, asking takes none
 asked_none : (h : History) → waiting h ≡ [] → waiting (grown h took) ≡ []
 asked_none h none = by (nat_lt (taken_count h) (length (entries h)))
   where
@@ -213,7 +213,7 @@ asked_none h none = by (nat_lt (taken_count h) (length (entries h)))
     by true = sym (drop-drop 1 (taken_count h) (entries h)) ∙ ap (λ (es : List Entry). drop 1 es) none
     by false = none
 
--- what the answer to a request leaves
+-- the run after the answer to a request
 record IsAsked (c new : Run) : Type 0 where
   on : new.progress.over ≡ c.progress.over
   at_end : new.progress.at_end ≡ c.progress.at_end
@@ -245,7 +245,7 @@ asked_if : (b : Bool) (c : Run) → c.progress.asks ≡ b → Gives c.puts c.his
 asked_if true c asks g old = answered c (waiting c.history) refl g old
 asked_if false c asks g old = record { on = refl; at_end = refl; asks = λ a. absurd (false_true (sym asks ∙ a)); ends = old; jobs = refl; stream = refl }
 
--- and then all is pulled
+-- all is pulled after the answer to a request
 calm_asked : (id : ℕ) (m : Message) (c d e new : Run) → new ≡ flush e → Gives new.puts new.history → IsAsked d e → d.progress.over ≡ false
     → d.progress.at_end ≡ at_end_after c.progress.at_end m → state_at d.jobs id ≡ Some job.Foreground → d.stream ≡ c.stream ++ bytes_in m → KeepsOn id m
     → CalmOn id m c new
@@ -427,7 +427,7 @@ started id canon editing jobs front = record {
   front = front;
 }
 
--- where the opening words were not written, the session has failed
+-- if the opening messages were not written, the session has failed
 opened : (b : Bool) (canon : Canon) (editing : Editing) (jobs : Jobs) → ended_of (run_after_opening b (start canon editing jobs)) ≡ ended.HangUp → b ≡ true
 opened true canon editing jobs e = refl
 opened false canon editing jobs e = absurd (not_fault ended.HangUp fault.Write e)

@@ -26,14 +26,14 @@ true_false : true ≡ false → ⊥
 true_false e = cc
 
 -- SYMBOLS
--- what is pulled says something only where symbols wait
+-- a pull sends something only if symbols wait
 pub symbols_wait : (h : History) → SaysSomething h (pulled 4096) → SymbolsWait h
 symbols_wait h says none = says (ap (λ (q : List Symbol). map_of (take 4096 q)) none)
   where
     map_of : List Symbol → List Item
     map_of q = map data_of q
 
--- of a text in parts, one more was written
+-- one more part of a text was written
 pub wait_within : (done : List (List ℕ)) (part left text : List ℕ) (old mid : Term) (x y : List ℕ) → concat done ++ (part ++ left) ≡ text
     → AdvancesRun (show done) old x y [] mid → ((c : Run) → LeadsTo c mid → SymbolsWait (next c.history (wrote part))) → (c : Run) → LeadsTo c old
     → SymbolsWaitWithin c.history text
@@ -126,7 +126,7 @@ feed_cause old end piece x y server.Memory on small halts failed shut none = λ 
 feed_cause old end piece x y server.Failed on small halts failed shut none = λ c at. absurd (true_false (sym (failed refl) ∙ (at.live on).failed))
 feed_cause old end piece x y _ on small halts failed shut none = absurd none
 
--- where a request waits, and where none does
+-- if a request waits, and if none does
 waits_asked : (b : Bool) (h : History) → b ≡ true → WaitsWithRequest h → WaitsIf b h
 waits_asked true h e w = w
 waits_asked false h e w = absurd (false_true e)
@@ -160,7 +160,7 @@ fed_waits old mid piece x y fed waits f e = λ c at.
     after_items c piece xs f e (fed.reads c at) (waits_only c.progress.asks (gets c.history xs) (waits (feed piece xs c) (fed.does.leads c at)))
 
 -- OTHER MESSAGES
--- what a refused call says of its fault and of why memory runs out
+-- the facts of a refused call about its fault and about why memory runs out
 pub stuck_cause : {A : Type 0} (old : Term) (m : Message) (r : Result A Stuck) (W : Type 0) → IfErr r (λ s. s.fault ≡ server.Memory) → OnErr r W
     → (W → (f : ServerFault) → f ≡ server.Memory → RefusesFor old m f) → IfErr r (λ s. RefusesFor old m s.fault)
 stuck_cause old m (Ok a) W is waits make = tt
@@ -171,7 +171,7 @@ pub fed_cause : {A : Type 0} (old mid : Term) (piece x y : List ℕ) (r : Result
     → OnErr r ((c : Run) → LeadsTo c mid → SymbolsWait c.history) → IfErr r (λ s. RefusesFor old (Piece piece) s.fault)
 fed_cause old mid piece x y r fed is waits = stuck_cause old (Piece piece) r _ is waits (fed_waits old mid piece x y fed)
 
--- after the entries were asked for
+-- a piece was fed, the entries were asked for, and then the step was refused
 pub answered_cause : {A : Type 0} (old mid last : Term) (piece x y u v : List ℕ) (put : List (Option Entry)) (r : Result A Stuck) → Feeds old piece x y mid
     → AdvancesRun ask mid u v put last → IfErr r (λ s. s.fault ≡ server.Memory) → OnErr r ((c : Run) → LeadsTo c last → SymbolsWait c.history)
     → IfErr r (λ s. RefusesFor old (Piece piece) s.fault)
@@ -194,7 +194,7 @@ said_cause old mid id text after echo x y r on asked rest does is waits =
     let o = echo_as id.0 after echo old c on asked at in
     (e, inr (subst P (λ i. (v i, o i)) (w (turn_echo echo c) (does.leads c at)))))
 
--- the client could not be told of the echo
+-- the echo could not be announced to the client
 pub echo_cause : (old : Term) (id : JobId) (text : List ℕ) (after : After) (echo : Option Bool) (f : ServerFault) → old.progress.over ≡ false
     → echo ≡ echo_by (is_foreground (state_at old.table id.0)) after → ((c : Run) → LeadsTo c old → (f ≡ server.Memory) × TellsEcho echo c.history)
     → RefusesFor old (Said id text after) f

@@ -1,4 +1,4 @@
--- What is put answers requests, message by message.
+-- The entries that are put answer requests, message by message.
 use Rattle.std.proofs.Common.{arith, ◌≡◌, ℕ, ◌+◌, ◌≤◌, Bool, true, false, not, ◌&&◌, Option, Some, None, List, [], ◌∷◌, ◌++◌, length, refl, sym, ap, ◌∙◌}
 use Rattle.tn_discipline.specs.{Canon.Canon, declared.reads.Entry.Entry}
 use Rattle.tn_jobs.specs.{Jobs.Jobs, declared.verdicts.{JobState.JobState, Verdict.Verdict, Why.Why}}
@@ -12,7 +12,7 @@ use Rattle.tn_cores.specs.declared.faults.SessionFault.TheVariants as fault
 use Rattle.tn_server.specs.{Events.{next, took}, Lines.waiting, declared.wishes.Editing.Editing}
 use Rattle.tn_cores.specs.declared.server.messages.ServerMark.TheVariants as mark
 
--- what was put, and a request that waits
+-- the entries that were put, and a request that waits
 abbrev answered : Run → ℕ
 answered c = length c.puts + open_requests c.progress.asks
 

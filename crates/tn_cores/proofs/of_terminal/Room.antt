@@ -1,4 +1,4 @@
--- How many bytes the lines among entries have, one entry after another.
+-- The number of bytes of the lines among entries, one entry after another.
 use Rattle.std.proofs.Common.{◌≡◌, ◌+◌, ◌-◌, ◌≤◌, ◌<◌, ℕ, Option, Some, None, List, [], ◌∷◌, length, drop, refl, ⊎_elim, ap, ◌∙◌, arith}
 use Rattle.std.proofs.lemmas.{List.{drop_more, at_drop_all}, Option.{slice_get_within, get_or_from_slice_get, slice_get_cases}}
 use Rattle.std.specs.List.{slice_get}
@@ -12,7 +12,7 @@ line_bytes-cons (Text line) entries = omega arith
 line_bytes-cons Eof entries = omega arith
 line_bytes-cons (Signal sig) entries = omega arith
 
--- a line alone
+-- a line counts as its bytes
 pub line_bytes-line : (line : List ℕ) → length line ≡ line_bytes (Text line ∷ [])
 unfolding line_bytes
 line_bytes-line line = omega arith
@@ -21,7 +21,7 @@ line_bytes-nil : line_bytes [] ≡ 0
 unfolding line_bytes
 line_bytes-nil = refl
 
--- from this entry on, its bytes and those of the later ones
+-- the entries from this one on count as its bytes and those of the later ones
 pub line_bytes-next : (entries : List Entry) (i : ℕ) (entry : Entry) → slice_get entries i ≡ Some entry
     → line_bytes (drop i entries) ≡ line_bytes (entry ∷ []) + line_bytes (drop (i + 1) entries)
 line_bytes-next entries i entry at =
@@ -41,7 +41,7 @@ pub none-past : (entries : List Entry) (i : ℕ) → slice_get entries i ≡ Non
 none-past entries i none =
     ⊎_elim (λ p. absurd (is_some (slice_get entries i) p.0 p.2 none)) (λ p. p.0) (slice_get_cases entries i).1
 
--- what is left of the room once the lines before an entry were taken off
+-- the rest of the room once the lines before an entry were taken off
 abbrev pub IsLeft : List Entry → ℕ → ℕ → Type 0
 IsLeft entries room i = room + line_bytes entries ≡ 60000 + line_bytes (drop i entries)
 
@@ -58,7 +58,7 @@ pub one_too_long : (entries : List Entry) (room i bytes : ℕ) (entry : Entry) �
     → bytes ≡ line_bytes (entry ∷ []) → room < bytes → 60000 < line_bytes entries
 one_too_long entries room i bytes entry left at count long = let next = line_bytes-next entries i entry at in omega (arith, left, count, long, next)
 
--- that line is taken off too
+-- the line of the next entry is taken off the room that is left
 pub next_left : (entries : List Entry) (room i bytes : ℕ) (entry : Entry) → IsLeft entries room i → slice_get entries i ≡ Some entry
     → bytes ≡ line_bytes (entry ∷ []) → bytes ≤ room → IsLeft entries (room - bytes) (i + 1)
 next_left entries room i bytes entry left at count fits = let next = line_bytes-next entries i entry at in omega (arith, left, count, fits, next)

@@ -1,4 +1,4 @@
--- How far a client's session is, after each thing that happens.
+-- The progress of a client's session, after each event.
 use Rattle.std.specs.Prelude.{true, false}
 use Rattle.tn_cores.specs.declared.client.messages.Origin.{Origin, TheVariants.{Keys, Net}}
 use Rattle.tn_cores.specs.declared.{client.progress.ClientProgress.ClientProgress, messages.Message.Message}
@@ -7,9 +7,11 @@ use Rattle.tn_cores.specs.declared.messages.Message.TheVariants.{HangUp, ReadFai
 use Rattle.tn_cores.specs.declared.faults.Ended.TheVariants as ended
 use Rattle.tn_cores.specs.declared.faults.SessionFault.TheVariants as fault
 
+-- the progress at the beginning
 abbrev pub nothing_yet : ClientProgress
 nothing_yet = record { at_end = false; closed = false; over = false; ended = ended.HangUp; pieces = 0 }
 
+-- one more piece had its effect
 abbrev pub after_piece : ClientProgress → ClientProgress
 after_piece p = record p { pieces = one_more p.pieces }
 
@@ -25,11 +27,11 @@ after_close p = record p { closed = true }
 abbrev pub after_fault : SessionFault → ClientProgress → ClientProgress
 after_fault f p = record p { ended = first_end p.ended (ended.Fault f) }
 
--- something failed: nothing has any effect from here on
+-- something failed: nothing has any effect from this message on
 abbrev pub after_failure : SessionFault → ClientProgress → ClientProgress
 after_failure f p = record p { ended = first_end p.ended (ended.Fault f); over = true }
 
--- a message that brings no bytes; nobody sends one that is not named here
+-- a message that brings no bytes; no thread sends one that is not named in this definition
 abbrev pub after_message : Origin → Message → ClientProgress → ClientProgress
 after_message Net HangUp p = after_hang_up p
 after_message Net ReadFailed p = after_hang_up (after_fault fault.Read p)

@@ -1,4 +1,4 @@
--- What a run ends by: the message that brought the fault, or the mark that it left.
+-- The end of a run: the message that brought the fault, or the mark that it left.
 use Rattle.std.specs.Prelude.{◌≡◌, List, ◌⊎◌}
 use Rattle.tn_cores.specs.client.{Marks.Turns, Refusing.IsRefusalCause, Run.Run}
 use Rattle.tn_cores.specs.declared.{client.messages.{ClientMark.ClientMark, Told.Told}, faults.Ended.Ended}

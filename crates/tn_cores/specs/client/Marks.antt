@@ -17,14 +17,14 @@ Turns c (m, mark.Refused f) new =
     IsFalse c.progress.over × (whole : Run) × Handles c m whole × (new ≡ fail (fault.Client f) whole)
     × IsRefusalCause c m.from m.message f
 
--- what it sends was written
+-- the bytes that it sends were written
 abbrev pub is_written : ClientMark → Bool
 is_written mark.Whole = true
 is_written mark.ShowFailed = true
 is_written mark.WriteFailed = false
 is_written (mark.Refused f) = false
 
--- it was done wholly, written and shown
+-- the message was done wholly, written and shown
 abbrev pub is_whole : ClientMark → Bool
 is_whole mark.Whole = true
 is_whole mark.ShowFailed = false
@@ -38,23 +38,26 @@ no_write_failed mark.ShowFailed = true
 no_write_failed mark.WriteFailed = false
 no_write_failed (mark.Refused f) = true
 
--- and none to the screen
+-- no write to the screen failed
 abbrev pub no_show_failed : ClientMark → Bool
 no_show_failed mark.Whole = true
 no_show_failed mark.ShowFailed = false
 no_show_failed mark.WriteFailed = true
 no_show_failed (mark.Refused f) = true
 
+-- each of these marks passes the test
 abbrev pub all_by : (ClientMark → Bool) → List (Told × ClientMark) → Bool
 all_by is [] = true
 all_by is ((m, mark) ∷ marked) = is mark && all_by is marked
 
+-- no write to the network failed
 abbrev pub all_written : List (Told × ClientMark) → Bool
 all_written marked = all_by is_written marked
 
+-- each message was done wholly
 abbrev pub all_whole : List (Told × ClientMark) → Bool
 all_whole marked = all_by is_whole marked
 
--- what these messages with their marks lead to
+-- the run to which these messages with their marks lead
 abbrev pub Runs : Run → List (Told × ClientMark) → Run → Type 0
 Runs c marked new = FoldsTo Turns c marked new

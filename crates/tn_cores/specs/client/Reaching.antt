@@ -1,4 +1,4 @@
--- Where a run leads the core, and what a message adds to it, whatever the run was.
+-- The core to which a run leads, and what a message adds to it, for any run.
 use Rattle.std.specs.Prelude.{◌≡◌, ℕ, ◌<◌, All, Bool, true, IsTrue, false, IsFalse, List, [], ◌++◌}
 use Rattle.tn_client.specs.{Calls.End, Events.items, declared.faults.ClientFault.ClientFault}
 use Rattle.tn_client.specs.{Replies.items_said, Screen.text_shown, Steps.{end_after_key, says_key, shows_key}}
@@ -10,7 +10,7 @@ use Rattle.tn_cores.specs.declared.client.messages.{ClientMark.ClientMark, Told.
 use Rattle.tn_nvt.specs.Feeding as nvt
 use Rattle.tn_nvt.specs.{Spelling.spells, declared.items.Item.Item}
 
--- what holds while messages have their effect
+-- the facts that hold while messages have their effect
 pub record IsLive (c : Run) (core : Core) : Type 0 where
   pub leads : client.LeadsTo c.history core.end
   pub read : nvt.LeadsTo c.stream (items c.history) core.end.decoder
@@ -18,18 +18,20 @@ pub record IsLive (c : Run) (core : Core) : Type 0 where
   pub failed : IsFalse core.end.failed
   pub latest : IsFalse c.progress.closed → c.sent ≡ c.history
 
--- this is where the run leads
+-- the run leads to this core
 pub record LeadsTo (c : Run) (core : Core) : Type 0 where
   pub live : IsFalse core.progress.over → IsLive c core
   pub progress : core.progress ≡ c.progress
 
--- the end after some keys, one after another, what it says and what it shows
+-- the end after some keys, one after another, what it sends and what it shows
 abbrev pub end_after_keys : End → List ℕ → End
 end_after_keys old keys = after_all end_after_key old keys
 
+-- the items that some keys send, one after another
 abbrev pub says_keys : End → List ℕ → List Item
 says_keys old keys = said_all end_after_key says_key old keys
 
+-- the bytes that some keys show, one after another
 abbrev pub shows_keys : End → List ℕ → List ℕ
 shows_keys old keys = said_all end_after_key shows_key old keys
 
@@ -45,7 +47,7 @@ TypesPrefix old keys before after seen now new =
     (front : List ℕ) × (back : List ℕ) × (keys ≡ front ++ back)
     × TypesAll old front before after seen now new
 
--- a message was done wholly: wherever the core may have been, it is now where the message leads
+-- a message was done wholly: from any state of the core, the message leads to its new state
 pub record DoesWhole (old : Core) (told : Told) (before after seen now : List ℕ) (new : Core) : Type 0 where
   pub said : List Item
   pub text : List ℕ
@@ -74,7 +76,7 @@ pub record StopsWithin (old : Core) (told : Told) (before after seen now : List 
 abbrev pub RefusesFor : Core → Told → ClientFault → Type 0
 RefusesFor old told f = (c : Run) → LeadsTo c old → IsRefusalCause c told.from told.message f
 
--- what goes to the network of the bytes that were appended
+-- the part of the appended bytes that goes to the network
 abbrev pub sent_bytes : Bool → List ℕ → List ℕ
 sent_bytes true bytes = []
 sent_bytes false bytes = bytes
@@ -85,7 +87,7 @@ SendsPrefix c next bytes all =
     (rest : List ℕ) × (spells (items_said next.sent) ≡ spells (items_said c.sent) ++ (bytes ++ rest))
     × (IsTrue all → rest ≡ [])
 
--- and these of what it shows more
+-- these bytes are a prefix of those that the longer run shows more
 abbrev pub ShowsPrefix : Run → Run → List ℕ → Bool → Type 0
 ShowsPrefix c next text all =
     (rest : List ℕ) × (text_shown next.history ≡ text_shown c.history ++ (text ++ rest))

@@ -8,21 +8,21 @@ use Rattle.tn_cores.specs.declared.client.messages.Origin.{Origin, TheVariants.{
 use Rattle.tn_cores.specs.declared.messages.Message.{Message, TheVariants.{Piece, Resized, Asked}}
 use Rattle.tn_nvt.specs.declared.items.Item.{Item}
 
--- the event makes the client say or show something
+-- the event makes the client send or show something
 abbrev pub SaysOrShows : History → Event → Type 0
 SaysOrShows h e = (replies h e ≢ []) ⊎ (shows h e ≢ [])
 
--- an item needs memory: to say or to show something, or to read a list
+-- an item needs memory: to send or to show something, or to read a list
 abbrev pub MayWantMemory : History → Item → Type 0
 MayWantMemory h item = (replies h (got item) ≢ []) ⊎ ((shows h (got item) ≢ []) ⊎ ReadsList (options h) item)
 
--- one of these keys says or shows something, once those before it were typed
+-- one of these keys sends or shows something, once those before it were typed
 abbrev pub RefusesAtKey : History → List ℕ → Type 0
 RefusesAtKey h piece =
     (front : List ℕ) × (key : ℕ) × (back : List ℕ) × (piece ≡ front ++ key ∷ back)
     × SaysOrShows (types h front) (typed key)
 
--- one of the piece's items says or shows something, or brings a list, once those before it were done
+-- one of the piece's items sends or shows something, or brings a list, once those before it were done
 abbrev pub RefusesAtItem : Run → List ℕ → Type 0
 RefusesAtItem c piece =
     (done : List Item) × (item : Item) × (left : List Item)
@@ -32,7 +32,7 @@ RefusesAtItem c piece =
 abbrev pub RefusesAtByte : Run → List ℕ → Type 0
 RefusesAtByte c piece = WantsMemoryWithin c.stream (items c.history) piece
 
--- a piece, a size that is told, or a command is refused for lack of memory, and nothing else is refused
+-- a piece, a size that is sent, or a command is refused for lack of memory, and nothing else is refused
 abbrev pub IsRefusalCause : Run → Origin → Message → ClientFault → Type 0
 IsRefusalCause c Keys (Piece piece) f = (f ≡ Memory) × RefusesAtKey c.history piece
 IsRefusalCause c Net (Piece piece) f = (f ≡ Memory) × (RefusesAtItem c piece ⊎ RefusesAtByte c piece)

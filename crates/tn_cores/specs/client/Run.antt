@@ -1,4 +1,4 @@
--- What the messages do: a fold over those that were handled, over the history of the client end.
+-- The effect of the messages: a fold over those that were handled, over the history of the client end.
 use Rattle.std.specs.Prelude.{◌≡◌, ℕ, Bool, true, false, List, [], ◌++◌}
 use Rattle.tn_client.specs.Events.{History, begun, next, typed, resized, gets, items}
 use Rattle.tn_linemode.specs.{Folding.after_all, Prefixes.IsRead}
@@ -31,12 +31,15 @@ sent_after false sent h = h
 abbrev pub goes_on : History → Run → Run
 goes_on h c = record c { history = h; sent = sent_after c.progress.closed c.sent h }
 
+-- the run with its progress changed by this step
 abbrev pub turns : (ClientProgress → ClientProgress) → Run → Run
 turns step c = record c { progress = step c.progress }
 
+-- the run after a piece of keys
 abbrev pub type_keys : List ℕ → Run → Run
 type_keys keys c = turns counting.after_piece (goes_on (types c.history keys) c)
 
+-- the run after a piece of the network, which completes these items
 abbrev pub feed : List ℕ → List Item → Run → Run
 feed piece xs c =
     record (turns counting.after_piece (goes_on (gets c.history xs) c)) { stream = c.stream ++ piece }
@@ -74,6 +77,7 @@ Acts c from (Resized size) new = new ≡ resize size c
 Acts c from (Asked control) new = Asks c from control new
 Acts c from m new = new ≡ turns (counting.after_message from m) c
 
+-- the message has its effect, unless all is over
 abbrev pub ActsUnless : Bool → Run → Told → Run → Type 0
 ActsUnless true c told new = new ≡ c
 ActsUnless false c told new = Acts c told.from told.message new
@@ -82,7 +86,7 @@ ActsUnless false c told new = Acts c told.from told.message new
 abbrev pub Handles : Run → Told → Run → Type 0
 Handles c told new = ActsUnless c.progress.over c told new
 
--- the core before the first message, with a window of this size, and lines of at most so many bytes
+-- the core before the first message, with a window of this size, and lines of at most this number of bytes
 abbrev pub start : ℕ → ℕ → ℕ → Run
 start width height limit =
     record {

@@ -11,6 +11,7 @@ use Rattle.tn_option.specs.{Options.{Options, state_of, is_yes}, declared.q_meth
 abbrev pub is_suppressed : Options → Bool
 is_suppressed o = is_yes (state_of o Them option_code.suppress_go_ahead)
 
+-- the terms of a client after a history
 abbrev pub terms_at : History → Terms
 terms_at h =
     record {

@@ -1,4 +1,4 @@
--- What a run ends by: the message that brought the fault, or the mark that it left.
+-- The end of a run: the message that brought the fault, or the mark that it left.
 use Rattle.std.specs.Prelude.{◌≡◌, Bool, IsFalse, List, ◌⊎◌}
 use Rattle.tn_cores.specs.Ending as run
 use Rattle.tn_cores.specs.server.{Marks.Turns, Refusing.IsRefusalCause, Run.Run}
@@ -25,7 +25,7 @@ EndsAt c m k (Fault Channel) = ⊥
 abbrev pub IsEndedAt : Run → List (Message × ServerMark) → Ended → Type 0
 IsEndedAt c marked ended = run.IsEndedAt Turns (λ at m e. EndsAt at m.0 m.1 e) c marked ended
 
--- Why a run ended by this fault: the opening words were not written, or a message.
+-- The reason why a run ended by this fault: the opening messages were not written, or a message.
 abbrev pub IsFaultCause : Bool → Run → List (Message × ServerMark) → SessionFault → Type 0
 IsFaultCause opens c marked Write = IsFalse opens ⊎ IsEndedAt c marked (Fault Write)
 IsFaultCause opens c marked f = IsEndedAt c marked (Fault f)

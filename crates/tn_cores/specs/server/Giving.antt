@@ -9,11 +9,11 @@ entries_put [] = []
 entries_put (None ∷ puts) = entries_put puts
 entries_put (Some entry ∷ puts) = entry ∷ entries_put puts
 
--- what was put is the history's entries up to those that wait
+-- the entries that were put are the history's, up to those that wait
 pub record Gives (puts : List (Option Entry)) (h : History) : Type 0 where
   pub all : entries_put puts ++ waiting h ≡ entries h
   pub taken : taken_count h ≤ length (entries h)
 
--- what was put is a prefix of the history's entries
+-- the entries that were put are a prefix of the history's
 abbrev pub GivesPrefix : List (Option Entry) → History → Type 0
 GivesPrefix puts h = (rest : List Entry) × (entries_put puts ++ rest ≡ entries h)

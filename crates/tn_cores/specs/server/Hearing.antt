@@ -1,4 +1,4 @@
--- What the messages bring from the network, and runs that a hang-up ends.
+-- The bytes that the messages bring from the network, and runs that a hang-up ends.
 use Rattle.std.specs.Prelude.{◌≡◌, ◌≢◌, ℕ, Bool, true, IsFalse, Option, Some, None, List, [], ◌∷◌, ◌++◌, map}
 use Rattle.std.specs.Prelude.{flat_map}
 use Rattle.tn_discipline.specs.{Canon.Canon, declared.reads.Entry.Entry}
@@ -24,6 +24,7 @@ abbrev pub MayCome : Bool → Message → Type 0
 MayCome at_end (Piece piece) = IsFalse at_end
 MayCome at_end _ = Unit {0}
 
+-- these messages may come one after another
 abbrev pub MayAllCome : Bool → List Message → Type 0
 MayAllCome at_end [] = Unit {0}
 MayAllCome at_end (m ∷ messages) = MayCome at_end m × MayAllCome (at_end_after at_end m) messages
@@ -35,6 +36,7 @@ KeepsOn id ReadFailed = ⊥
 KeepsOn id Refused = ⊥
 KeepsOn id _ = Unit {0}
 
+-- none of these messages ends the job of this number, or is a fault
 abbrev pub AllKeepOn : ℕ → List Message → Type 0
 AllKeepOn id [] = Unit {0}
 AllKeepOn id (m ∷ messages) = KeepsOn id m × AllKeepOn id messages
@@ -58,8 +60,8 @@ AllBeforeEnd puts all =
     (given : List Entry) (more : List (Option Entry)) → puts ≡ map (λ e. Some e) given ++ None ∷ more
     → given ≡ all
 
--- Where a hang-up ended the run: nothing failed, the job of this number was not done, all pieces were heard,
--- and all entries were put before an end was.
+-- If a hang-up ended the run: nothing failed, the job of this number was not done, all pieces were read, and
+-- all entries were put before an end was.
 pub record HangsUp (id : ℕ) (messages : List Message) (c : Run) : Type 0 where
   pub kept_on : AllKeepOn id messages
   pub all_heard : c.stream ≡ heard messages

@@ -6,12 +6,12 @@ use Rattle.tn_cores.specs.declared.messages.Message.TheVariants.{Take}
 use Rattle.tn_cores.specs.declared.faults.SessionFault.TheVariants as fault
 use Rattle.tn_cores.specs.declared.server.messages.ServerMark.TheVariants as mark
 
--- whether a request waits where the message gave nothing
+-- whether a request waits if the message gave nothing
 abbrev pub asks_at : Message → Run → Bool
 asks_at Take c = true
 asks_at _ c = c.progress.asks
 
--- what the whole message leads to, but that nothing was put
+-- the run to which the whole message leads, but that nothing was put
 abbrev pub unput : Message → Run → Run → Run
 unput m c whole =
     record whole {
@@ -19,7 +19,7 @@ unput m c whole =
       progress = record (whole.progress) { asks = asks_at m c; entries = c.progress.entries };
     }
 
--- what was done of the message where a call was refused, after what it gives was put, or before
+-- the effect of the message if a call was refused, after its entry was put, or before
 abbrev pub put_or_not : Bool → Message → Run → Run → Run
 put_or_not true m c whole = whole
 put_or_not false m c whole = unput m c whole
@@ -40,6 +40,7 @@ is_whole mark.Whole = true
 is_whole mark.WriteFailed = false
 is_whole (mark.Refused f put) = false
 
+-- each message was done wholly, and written
 abbrev pub all_whole : List (Message × ServerMark) → Bool
 all_whole [] = true
 all_whole ((m, mark.Whole) ∷ marked) = all_whole marked
@@ -52,15 +53,16 @@ no_write_failed mark.Whole = true
 no_write_failed mark.WriteFailed = false
 no_write_failed (mark.Refused f put) = true
 
+-- no write failed
 abbrev pub no_writes_failed : List (Message × ServerMark) → Bool
 no_writes_failed [] = true
 no_writes_failed (m ∷ marked) = no_write_failed m.1 && no_writes_failed marked
 
--- the terminal where the opening words were written, and where that write failed
+-- the terminal if the opening messages were written, and if that write failed
 abbrev pub run_after_opening : Bool → Run → Run
 run_after_opening true c = c
 run_after_opening false c = fail fault.Write c
 
--- what these messages with their marks lead to
+-- the run to which these messages with their marks lead
 abbrev pub Runs : Run → List (Message × ServerMark) → Run → Type 0
 Runs c marked new = FoldsTo Turns c marked new

@@ -1,4 +1,4 @@
--- Where a run leads the terminal, and what a call adds to it, whatever the run was.
+-- The terminal to which a run leads, and what a call adds to it, for any run.
 use Rattle.std.specs.Prelude.{◌≡◌, ℕ, ◌<◌, All, Bool, true, IsTrue, false, IsFalse, Option, List, [], ◌++◌}
 use Rattle.tn_discipline.specs.declared.reads.Entry.{Entry}
 use Rattle.tn_nvt.specs.{Spelling.spells, declared.items.Item.Item}
@@ -12,7 +12,7 @@ use Rattle.tn_cores.specs.server.Run.{Run, Handles, Reads, feed, writes, Cuts, a
 use Rattle.tn_cores.specs.declared.server.{messages.{ServerMark.ServerMark, Put.Put}, terminal.Term.Term}
 use Rattle.tn_jobs.specs.declared.verdicts.Verdict.{Verdict}
 
--- what holds while messages have their effect
+-- the facts that hold while messages have their effect
 pub record IsLive (c : Run) (t : Term) : Type 0 where
   pub leads : server.LeadsTo c.history t.end
   pub read : nvt.LeadsTo c.stream (items c.history) t.end.decoder
@@ -22,7 +22,7 @@ pub record IsLive (c : Run) (t : Term) : Type 0 where
   pub tostop : t.tostop ≡ (opening_settings c.history).flags.tostop
   pub jobs : t.table ≡ c.jobs
 
--- this is where the run leads
+-- the run leads to this terminal
 pub record LeadsTo (c : Run) (t : Term) : Type 0 where
   pub live : IsFalse t.progress.over → IsLive c t
   pub progress : t.progress ≡ c.progress
@@ -77,28 +77,29 @@ pub record FeedBreaksOff (old : Term) (piece before after : List ℕ) (new : Ter
       × (spells (items_said (gets c.history xs)) ≡ spells (items_said c.history) ++ (part ++ rest))
   pub progress : new.progress ≡ after_piece old.progress
 
--- where it ends all, the terminal has no effect from here on, and a request that waits is answered by the end
+-- if it ends all, the terminal has no effect from this message on, and a request that waits is answered by
+-- the end
 abbrev pub HaltsIf : Bool → Term → List (Option Entry) → Term → Type 0
 HaltsIf true old put new =
     (new ≡ record old { progress = after_halt old.progress }) × (put ≡ end_if old.progress.asks)
 HaltsIf false old put new = (new ≡ old) × (put ≡ [])
 
--- A reaction that has this verdict. It takes eight, of which five are those of every relation here: the
--- terminal and the output, each before and after, and what is put.
+-- A reaction that has this verdict. It takes eight, of which five are those of every relation in this file:
+-- the terminal and the output, each before and after, and what is put.
 pub record Says (id : ℕ) (text : List ℕ) (v : Option Verdict) (old : Term) (before after : List ℕ)
     (put : Put) (new : Term) : Type 0 where
   pub parts : List (List ℕ)
   pub cuts : Cuts (writes v) text parts
   pub does : AdvancesRun (after_said id parts v) old before after (puts_of put) new
 
--- the same, with the same eight, where a call was refused
+-- a reaction that has this verdict, if a call was refused; it takes the eight of `Says`
 pub record SayBreaksOff (id : ℕ) (text : List ℕ) (v : Option Verdict) (old : Term) (before after : List ℕ)
     (put : Put) (new : Term) : Type 0 where
   pub parts : List (List ℕ)
   pub cuts : Cuts (writes v) text parts
   pub breaks : BreaksOff (after_said id parts v) old before after (puts_of put) new
 
--- a message was done wholly: wherever the terminal may have been, it is now where the message leads
+-- a message was done wholly: from any state of the terminal, the message leads to its new state
 pub record DoesWhole (old : Term) (message : Message) (before after : List ℕ) (put : Put)
     (new : Term) : Type 0 where
   pub said : List Item

@@ -28,16 +28,16 @@ abbrev pub WaitsWithText : Bool → History → List ℕ → Type 0
 WaitsWithText true h text = SymbolsWaitWithin h text
 WaitsWithText false h text = SymbolsWait h
 
--- the client is told of the echo that a job asked for
+-- the echo for which a job asked is announced to the client
 abbrev pub TellsEcho : Option Bool → History → Type 0
 TellsEcho None h = ⊥
 TellsEcho (Some on) h = SaysSomething h (echo_set on)
 
--- it is told of the echo, or symbols wait with the text after that
+-- the echo is announced, or symbols wait with the text after that
 abbrev pub WaitsWithReaction : Option Bool → Bool → History → List ℕ → Type 0
 WaitsWithReaction echo shown h text = TellsEcho echo h ⊎ WaitsWithText shown (echoed echo h) text
 
--- a request that no entry answers is told by GA, or symbols wait
+-- a request that no entry answers is announced by GA, or symbols wait
 abbrev pub WaitsWithRequest : History → Type 0
 WaitsWithRequest h = SaysSomething h took ⊎ SymbolsWait h
 
@@ -51,12 +51,12 @@ RefusesAtItem c piece f =
 abbrev pub RefusesAtByte : Run → List ℕ → Type 0
 RefusesAtByte c piece = WantsMemoryWithin c.stream (items c.history) piece
 
--- what is said once a request was asked again, where one waits
+-- the items that are sent once a request was asked again, if one waits
 abbrev pub WaitsIf : Bool → History → Type 0
 WaitsIf true h = WaitsWithRequest h
 WaitsIf false h = SymbolsWait h
 
--- something is to be said once all items of the piece were done
+-- something is to be sent once all items of the piece were done
 abbrev pub RefusesAfterItems : Run → List ℕ → Type 0
 RefusesAfterItems c piece =
     (xs : List Item) × Reads c piece xs × WaitsIf c.progress.asks (gets c.history xs)
@@ -67,7 +67,7 @@ IsPairCause c piece pty.TooFarAhead = RefusesAtItem c piece (Pty pty.TooFarAhead
 IsPairCause c piece pty.Memory = RefusesAtItem c piece (Pty pty.Memory)
 IsPairCause c piece pty.Closed = ⊥
 
--- a piece is refused by the pair; or memory runs out for an item, a parameter, or what is said after them
+-- a piece is refused by the pair; or memory runs out for an item, a parameter, or what is sent after them
 abbrev pub IsPieceCause : Run → List ℕ → ServerFault → Type 0
 IsPieceCause c piece (Pty f) = IsPairCause c piece f
 IsPieceCause c piece Memory =
@@ -76,7 +76,7 @@ IsPieceCause c piece Failed = ⊥
 IsPieceCause c piece (Char f) = ⊥
 IsPieceCause c piece NotOn = ⊥
 
--- any other message is refused only when out of memory, where something is to be said
+-- any other message is refused only when out of memory, if something is to be sent
 abbrev pub IsRefusalCause : Run → Message → ServerFault → Type 0
 IsRefusalCause c (Piece piece) f = IsPieceCause c piece f
 IsRefusalCause c HangUp f = (f ≡ Memory) × SymbolsWait c.history

@@ -1,4 +1,4 @@
--- What is put for the foreground job answers what it asked for.
+-- The entries that are put for the foreground job answer its requests.
 use Rattle.std.specs.Prelude.{ℕ, ◌+◌, ◌≤◌, Bool, true, false, List, [], ◌∷◌, length}
 use Rattle.tn_cores.specs.{declared.messages.Message.{Message, TheVariants.Take}, server.Run.Run}
 use Rattle.tn_cores.specs.declared.server.messages.ServerMark.{ServerMark}
@@ -8,16 +8,17 @@ abbrev pub open_requests : Bool → ℕ
 open_requests true = 1
 open_requests false = 0
 
+-- 1 for a request of the foreground job
 abbrev pub request_of : Message → ℕ
 request_of Take = 1
 request_of _ = 0
 
--- how many of these messages ask for an entry
+-- the number of these messages that ask for an entry
 abbrev pub requests_among : List (Message × ServerMark) → ℕ
 requests_among [] = 0
 requests_among (m ∷ marked) = request_of m.0 + requests_among marked
 
--- What was put for the foreground job, and the request that waits, are no more than it has asked for: so the
--- channel to it never holds more than one entry.
+-- The entries that were put for the foreground job, and the request that waits, are no more than its
+-- requests: so the channel to it never holds more than one entry.
 abbrev pub AnswersRequests : ℕ → Run → Type 0
 AnswersRequests requests c = length c.puts + open_requests c.progress.asks ≤ requests

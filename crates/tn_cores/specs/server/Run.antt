@@ -1,4 +1,4 @@
--- What the messages do: a fold over those that were handled, over the history of the server end.
+-- The effect of the messages: a fold over those that were handled, over the history of the server end.
 use Rattle.std.specs.Prelude.{◌≡◌, ℕ, ◌≤◌, Bool, true, false, ◌&&◌, Option, Some, None, List, [], ◌∷◌, ◌++◌}
 use Rattle.std.specs.{Prelude.{length, All}, List.concat}
 use Rattle.tn_discipline.specs.{Canon.Canon, declared.reads.Entry.Entry}
@@ -19,8 +19,8 @@ use Rattle.tn_cores.specs.declared.server.progress.ServerProgress.{ServerProgres
 use Rattle.tn_cores.specs.declared.faults.SessionFault.TheVariants as fault
 use Rattle.tn_cores.specs.declared.server.messages.Put.TheVariants as put
 
--- All that has happened at the terminal: at its server end, with the pieces joined; what was put for the
--- foreground job, where None is the end of its entries; the jobs; and how far the session is.
+-- The state of a run of the terminal: the history of its server end, with the pieces joined; what was put for
+-- the foreground job, as which None is the end of its entries; the jobs; and the progress of the session.
 pub record Run : Type 0 where
   pub history : History
   pub stream : List ℕ
@@ -36,17 +36,18 @@ flushed_history h = next h (pulled (length (queue h)))
 abbrev pub IsPart : List ℕ → Type 0
 IsPart part = length part ≤ 4096
 
--- what goes to the foreground job: nothing, an entry, or the end of its entries
+-- the entries for the foreground job: none, one, or the end of its entries
 abbrev pub puts_of : Put → List (Option Entry)
 puts_of put.Nothing = []
 puts_of (put.Entry entry) = Some entry ∷ []
 puts_of put.End = None ∷ []
 
--- no entry answers the request: the end does, where no more bytes come
+-- no entry answers the request: the end does, if no more bytes come
 abbrev pub end_if : Bool → List (Option Entry)
 end_if true = None ∷ []
 end_if false = []
 
+-- a request is answered by the first of these entries, or waits
 abbrev pub answer : Run → List Entry → Run
 answer c [] =
     record c { puts = c.puts ++ end_if c.progress.at_end; progress = counting.after_no_entry c.progress }
@@ -57,11 +58,12 @@ answer c (entry ∷ entries) =
 abbrev pub ask : Run → Run
 ask c = answer (record c { history = next c.history took }) (waiting c.history)
 
--- where a request waits, it is asked again
+-- if a request waits, it is asked again
 abbrev pub ask_if : Bool → Run → Run
 ask_if true c = ask c
 ask_if false c = c
 
+-- the run after a piece, which completes these items
 abbrev pub feed : List ℕ → List Item → Run → Run
 feed piece xs c =
     record c {
@@ -74,10 +76,11 @@ feed piece xs c =
 abbrev pub hang_up : Run → Run
 hang_up c = record c { puts = c.puts ++ end_if c.progress.asks; progress = counting.after_hang_up c.progress }
 
+-- the run with this end, unless it had one
 abbrev pub ends_by : Ended → Run → Run
 ends_by e c = record c { progress = counting.after_end e c.progress }
 
--- nothing has any effect from here on: a request that waits is answered by the end
+-- nothing has any effect from this message on: a request that waits is answered by the end
 abbrev pub halt : Run → Run
 halt c = record c { puts = c.puts ++ end_if c.progress.asks; progress = counting.after_halt c.progress }
 
@@ -85,9 +88,11 @@ halt c = record c { puts = c.puts ++ end_if c.progress.asks; progress = counting
 abbrev pub fail : SessionFault → Run → Run
 fail f c = halt (ends_by (Fault f) c)
 
+-- the run after a text was shown in these parts
 abbrev pub show : List (List ℕ) → Run → Run
 show parts c = record c { history = in_parts c.history parts }
 
+-- the run after all symbols were sent
 abbrev pub flush : Run → Run
 flush c = record c { history = flushed_history c.history }
 
@@ -95,9 +100,11 @@ flush c = record c { history = flushed_history c.history }
 abbrev pub Reads : Run → List ℕ → List Item → Type 0
 Reads c piece xs = IsRead (c.stream ++ piece) (items c.history ++ xs)
 
+-- the flag TOSTOP of the terminal
 abbrev pub tostop : Run → Bool
 tostop c = (opening_settings c.history).flags.tostop
 
+-- the text is not empty
 abbrev pub has_text : List ℕ → Bool
 has_text [] = false
 has_text (byte ∷ bytes) = true
@@ -107,9 +114,11 @@ abbrev pub verdict_at : Option JobState → Bool → After → Bool → Option V
 verdict_at None has after stops = None
 verdict_at (Some state) has after stops = judged state has after stops
 
+-- the verdict on a step of this job
 abbrev pub verdict : Run → ℕ → List ℕ → After → Option Verdict
 verdict c id text after = verdict_at (state_at c.jobs id) (has_text text) after (tostop c)
 
+-- this job is in the foreground
 abbrev pub in_foreground : Run → ℕ → Bool
 in_foreground c id = is_foreground (state_at c.jobs id)
 
@@ -118,48 +127,53 @@ abbrev pub echo_by : Bool → After → Option Bool
 echo_by true after = echo_asked after
 echo_by false after = None
 
+-- the history after the echo was set, if it was asked for
 abbrev pub echoed : Option Bool → History → History
 echoed None h = h
 echoed (Some on) h = next h (echo_set on)
 
--- what is typed from here on is echoed or not, or as before
+-- keys that are typed from this message on are echoed or not, or as before
 abbrev pub turn_echo : Option Bool → Run → Run
 turn_echo echo c = record c { history = echoed echo c.history }
 
--- the foreground job that stops is made foreground again: one stop is counted, and it stays where it is
+-- the foreground job that stops is made foreground again: one stop is counted, and its state stays
 abbrev pub stop_job : ℕ → Why → Bool → Run → Run
 stop_job id why true c = record c { progress = counting.after_stop c.progress }
 stop_job id why false c = record c { jobs = with_state c.jobs id (Some (job.Stopped why)) }
 
+-- the run after this job ended; the end of the foreground job ends the session
 abbrev pub end_job : ℕ → Bool → Run → Run
 end_job id true c =
     record c { jobs = with_state c.jobs id None; progress = counting.after_end Done c.progress }
 end_job id false c = record c { jobs = with_state c.jobs id None }
 
--- where the job stands from here on
+-- the state of the job from this message on
 abbrev pub move : ℕ → JobState → Run → Run
 move id job.Foreground c = c
 move id job.Background c = c
 move id (job.Stopped why) c = stop_job id why (in_foreground c id) c
 move id job.Ended c = end_job id (in_foreground c id) c
 
+-- the job has ended
 abbrev pub is_end : JobState → Bool
 is_end job.Ended = true
 is_end job.Foreground = false
 is_end job.Background = false
 is_end (job.Stopped why) = false
 
+-- the run, halted if this test holds
 abbrev pub halt_if : Bool → Run → Run
 halt_if true c = halt c
 halt_if false c = c
 
--- what a job's reaction does once the echo is as it asked: first the job is moved, then its text is shown;
--- the end of the foreground job ends all
+-- the effect of a job's reaction once the echo is as it asked: first the job is moved, then its text is
+-- shown; the end of the foreground job ends all
 abbrev pub after_said : ℕ → List (List ℕ) → Option Verdict → Run → Run
 after_said id parts None c = flush c
 after_said id parts (Some v) c =
     halt_if (is_end v.next && in_foreground c id) (flush (show parts (move id v.next c)))
 
+-- the verdict lets the text be written
 abbrev pub writes : Option Verdict → Bool
 writes None = false
 writes (Some v) = v.write
@@ -169,7 +183,7 @@ abbrev pub Cuts : Bool → List ℕ → List (List ℕ) → Type 0
 Cuts true text parts = (concat parts ≡ text) × All IsPart parts
 Cuts false text parts = parts ≡ []
 
--- what is put once nothing has any effect: a request is answered by the end
+-- the entries that are put once nothing has any effect: a request is answered by the end
 abbrev pub idle_puts : Message → List (Option Entry)
 idle_puts Take = None ∷ []
 idle_puts _ = []
@@ -194,6 +208,7 @@ Acts c Left new = new ≡ flush c
 Acts c (Resized size) new = new ≡ flush c
 Acts c (Asked control) new = new ≡ flush c
 
+-- the message has its effect, unless all is over
 abbrev pub ActsUnless : Bool → Run → Message → Run → Type 0
 ActsUnless true c message new = new ≡ idle message c
 ActsUnless false c message new = Acts c message new

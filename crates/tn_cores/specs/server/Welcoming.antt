@@ -1,4 +1,4 @@
--- Which message is welcome where a session holds its reader back, and the end that none of them brings.
+-- The messages that are welcome if a session holds its reader back, and the end that none of them brings.
 use Rattle.std.specs.Prelude.{◌≤◌, ◌<◌, ◌+◌, ◌⊎◌, ℕ, IsFalse, List, [], ◌∷◌, length, ⊤}
 use Rattle.tn_discipline.specs.declared.reads.Entry.{Entry, TheVariants.Text}
 use Rattle.tn_cores.specs.declared.faults.{Ended.{Ended, TheVariants.Fault}, SessionFault.TheVariants.Server}
@@ -6,19 +6,19 @@ use Rattle.tn_cores.specs.{declared.messages.Message.{Message, TheVariants.Piece
 use Rattle.tn_pty.specs.declared.pty.PtyFault.TheVariants.{TooFarAhead}
 use Rattle.tn_server.specs.{Lines.waiting, declared.faults.ServerFault.TheVariants.Pty}
 
--- how many bytes a welcome piece has at most
+-- the most bytes of a welcome piece
 abbrev pub max_piece : ℕ
 max_piece = 512
 
--- how many entries wait at most where a piece is welcome
+-- the most entries that wait if a piece is welcome
 abbrev pub max_before_piece : ℕ
 max_before_piece = 511
 
--- how many bytes the lines that wait have at most where a piece is welcome
+-- the most bytes that the lines which wait have if a piece is welcome
 abbrev pub max_bytes_before_piece : ℕ
 max_bytes_before_piece = 60000
 
--- how many bytes the lines among these entries have
+-- the number of bytes of the lines among these entries
 unfoldable pub line_bytes : List Entry → ℕ
 line_bytes [] = 0
 line_bytes (Text line ∷ entries) = length line + line_bytes entries

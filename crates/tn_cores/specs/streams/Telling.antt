@@ -1,9 +1,9 @@
--- What a reader or a writer tells of its calls.
+-- The known facts of a reader's or a writer's calls.
 use Rattle.std.specs.Prelude.{◌≡◌, ◌≢◌, ℕ, ◌+◌, ◌<◌, ◌≤◌, Bool, IsFalse, List, length, Option, Some, None}
 use Rattle.std.specs.{Prelude.{Result, Ok, Err, ⊤, ◌⊎◌}, IoError.error_kind, declared.io.Error.Error}
 use Rattle.std.specs.declared.io.ErrorKind.TheVariants.{Interrupted}
 
--- how many calls were made, and how many of them failed
+-- the number of calls that were made, and the number of them that failed
 pub record Calls : Type 0 where
   pub made : ℕ
   pub failed : ℕ
@@ -13,6 +13,7 @@ abbrev pub CountsError : Error → ℕ → ℕ → Type 0
 CountsError e old new = (error_kind e ≡ Interrupted → new ≡ old)
     × (error_kind e ≢ Interrupted → new ≡ old + 1)
 
+-- the number of failed calls after a read with this result
 abbrev pub CountsRead : Result ℕ Error → ℕ → ℕ → Type 0
 CountsRead (Ok n) old new = new ≡ old
 CountsRead (Err e) old new = CountsError e old new
@@ -22,25 +23,26 @@ abbrev pub CountsWrite : List ℕ → Result ℕ Error → ℕ → ℕ → Type 
 CountsWrite bytes (Ok n) old new = (n ≢ 0 → new ≡ old) × (n ≡ 0 → 0 < length bytes → new ≡ old + 1)
 CountsWrite bytes (Err e) old new = CountsError e old new
 
--- one call more, if it is told; whoever tells nothing goes on to tell nothing
+-- one call more, if calls are counted; if none are counted, none are after it
 abbrev pub TellsCall : (ℕ → ℕ → Type 0) → Option Calls → Option Calls → Type 0
 TellsCall counts None new = new ≡ None
 TellsCall counts (Some old) None = ⊤
 TellsCall counts (Some old) (Some new) = (new.made ≡ old.made + 1) × counts old.failed new.failed
 
--- if it is told: so many calls were made, and none of them failed
+-- if calls are counted: this number of calls was made, and none of them failed
 abbrev pub HasMade : ℕ → Option Calls → Option Calls → Type 0
 HasMade count None new = new ≡ None
 HasMade count (Some old) None = ⊤
 HasMade count (Some old) (Some new) = (new.made ≡ old.made + count) × (new.failed ≡ old.failed)
 
--- if it is told: a call failed, or so many were made
+-- if calls are counted: a call failed, or this number was made
 abbrev pub HasFailed : ℕ → Option Calls → Option Calls → Type 0
 HasFailed most None new = ⊤
 HasFailed most (Some old) None = ⊤
 HasFailed most (Some old) (Some new) = (new.failed ≡ old.failed + 1) ⊎ (new.made ≡ old.made + most)
 
--- If it is told: no call is forgotten, and where not all went well, one of them failed, or so many were made.
+-- If calls are counted: no call is forgotten, and if not all went well, one of them failed, or this number
+-- was made.
 abbrev pub AccountsFor : ℕ → Bool → Option Calls → Option Calls → Type 0
 AccountsFor most well None new = new ≡ None
 AccountsFor most well (Some old) None = ⊤
@@ -48,7 +50,7 @@ AccountsFor most well (Some old) (Some new) =
     (old.made ≤ new.made) × (old.failed ≤ new.failed)
     × (IsFalse well → (old.failed < new.failed) ⊎ (old.made + most ≤ new.made))
 
--- if it is told: some of the calls failed, or so many were made
+-- if calls are counted: some of the calls failed, or this number was made
 abbrev pub SomeFailed : ℕ → Option Calls → Option Calls → Type 0
 SomeFailed most None new = ⊤
 SomeFailed most (Some old) None = ⊤

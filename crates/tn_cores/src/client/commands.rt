@@ -1,4 +1,4 @@
-//! What a user asks for as a client end does it.
+//! A user's request as a client end takes it.
 
 ghost use Rattle.std.specs.Prelude.{◌≡◌};
 ghost use Rattle.tn_cores.specs.client.Commands.{command_of};
@@ -6,7 +6,7 @@ ghost use Rattle.tn_cores.specs.client.Commands.{command_of};
 use crate::streams::Control;
 use tn_client::UserCommand;
 
-/// The command that is asked for, or none for a new line.
+/// Returns the command that is asked for, or none for a new line.
 pub(crate) fn command_of(control: Control) -> Option<UserCommand>
     ensures { result ≡ command_of control }
 {

@@ -1,4 +1,4 @@
-//! The core of a client session, which alone uses the client end.
+//! The core of a client session; only the core uses the client end.
 
 ghost use Rattle.std.specs.Prelude.{◌≡◌, ℕ, List, IsTrue, IsFalse, OnOk, OnErr, IfOk, IfErr, []};
 ghost use Rattle.tn_cores.specs.client.Counting as counting;
@@ -37,7 +37,12 @@ fn drop_if(closed: bool, out: &mut Vec<u8>)
 }
 
 impl Core {
-    /// Starts the end of a client whose window has this size and whose lines have at most `limit` bytes.
+    /// Starts the end of a client whose window has this size and whose lines have at most `limit`
+    /// bytes.
+    ///
+    /// # Errors
+    ///
+    /// - `Memory`: there is no memory for the line.
     pub fn start(alloc: Global, width: u16, height: u16, limit: Limit) -> Result<Core, ClientFault>
         ensures leads { IfOk result (λ core. LeadsTo (run.start width height limit) core) }
         ensures fault { IfErr result (λ fault. fault ≡ ClientFault.Memory) }
@@ -49,7 +54,7 @@ impl Core {
         })
     }
 
-    // What the user types, one key after another.
+    // Types the user's keys, one after another.
     fn keys(
         &mut self,
         keys: &[u8],
@@ -74,7 +79,7 @@ impl Core {
         Ok(())
     }
 
-    // What comes from the network.
+    // Feeds the end the bytes from the network.
     fn feed(
         &mut self,
         piece: &[u8],
@@ -97,7 +102,7 @@ impl Core {
         Ok(())
     }
 
-    // The window has another size.
+    // Takes another size of the window.
     fn resize(
         &mut self,
         from: Origin,
@@ -119,7 +124,8 @@ impl Core {
         Ok(())
     }
 
-    // The user asks for this, after the keys that were typed: a command is sent, or a new line is entered.
+    // Takes a request of the user, after the keys that were typed: a command is sent, or a new line
+    // is entered.
     fn send(
         &mut self,
         control: Control,
@@ -174,7 +180,7 @@ impl Core {
         }
     }
 
-    // What a message that brings no bytes changes.
+    // Changes the progress by a message that brings no bytes.
     fn step(&mut self, from: Origin, message: &Message)
         ensures { self.new ≡ record self.old {
           progress =
@@ -192,7 +198,7 @@ impl Core {
         };
     }
 
-    // A message that has its effect.
+    // Handles a message that has its effect.
     fn act(
         &mut self,
         told: Told,
@@ -222,14 +228,14 @@ impl Core {
         }
     }
 
-    // Something failed: nothing has any effect from here on.
+    // Fails: nothing has any effect from then on.
     fn fails(&mut self, fault: SessionFault)
         ensures { self.new ≡ record self.old { progress = counting.after_failure fault self.old.progress } }
     {
         self.progress = self.progress.failed(fault);
     }
 
-    /// Tells that a write failed: nothing has any effect from here on.
+    /// Takes the report that a write failed: nothing has any effect from then on.
     pub fn write_failed(&mut self)
         ensures leads { (c : Run) → LeadsTo c self.old → LeadsTo (run.fail SessionFault.Write c) self.new }
         ensures over { IsTrue self.new.progress.over }
@@ -238,14 +244,14 @@ impl Core {
         self.fails(SessionFault::Write);
     }
 
-    /// How far the session is.
+    /// Returns the progress of the session.
     pub fn progress(&self) -> ClientProgress
         ensures { result ≡ self.now.progress }
     {
         self.progress
     }
 
-    /// What this end has agreed on; of a session that is over nothing is known.
+    /// Returns the terms on which this end has agreed; those of a session that is over are unknown.
     pub fn terms(&self) -> Terms
         ensures { (c : Run) → LeadsTo c self.now → IsFalse self.now.progress.over
             → result ≡ terms_at c.history }

@@ -1,9 +1,9 @@
-//! What the core is told, and how far it was done.
+//! The messages to the core, and how far each was done.
 
 use crate::messages::Message;
 use tn_client::ClientFault;
 
-/// Where a message comes from.
+/// The source of a message.
 #[derive(Clone, Copy, Debug, PartialEq, Eq)]
 pub enum Origin {
     /// From the keys that the user types.
@@ -12,21 +12,22 @@ pub enum Origin {
     Net,
 }
 
-/// A message to the core, with where it comes from.
+/// A message to the core, with its source.
 #[derive(Debug, Drop)]
 pub struct Told {
     pub from: Origin,
     pub message: Message,
 }
 
-/// How far a message was done.
+/// The mark of a message: how far it was done.
 #[derive(Clone, Copy, Debug, PartialEq, Eq)]
 pub enum ClientMark {
-    /// Wholly, and what it appended was written and shown.
+    /// The message was done wholly, and what it appended was written and shown.
     Whole,
-    /// Wholly, but a write to the network failed.
+    /// The message was done wholly, but a write to the network failed.
     WriteFailed,
-    /// Wholly, and what it appended was written, but a write to the screen failed.
+    /// The message was done wholly, and what it appended was written, but a write to the screen
+    /// failed.
     ShowFailed,
     /// A call of the client end was refused.
     Refused(ClientFault),

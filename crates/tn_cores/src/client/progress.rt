@@ -1,18 +1,18 @@
-//! How far a client's session is: all that the core knows beside the client end.
+//! The progress of a client's session: all of the core's state besides the client end.
 
 ghost use Rattle.std.specs.Prelude.{◌≡◌};
 ghost use Rattle.tn_cores.specs.client.Counting as counting;
 
 use crate::faults::{Ended, SessionFault};
 
-/// How far a client's session is.
+/// The progress of a client's session.
 #[derive(Clone, Copy, Debug, PartialEq, Eq)]
 pub struct ClientProgress {
-    /// No more bytes come from the network.
+    /// Whether no more bytes come from the network.
     pub at_end: bool,
-    /// No more keys come, and nothing more goes to the network.
+    /// Whether no more keys come, and nothing more goes to the network.
     pub closed: bool,
-    /// Nothing has any effect any more.
+    /// Whether nothing has any effect any more.
     pub over: bool,
     pub ended: Ended,
     /// The pieces that had their effect, from the keys and from the network.

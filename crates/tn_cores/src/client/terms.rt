@@ -2,7 +2,8 @@
 
 use tn_discipline::Chars;
 
-/// Who edits lines and by which characters, who echoes, and how much of a line waits at this end.
+/// The side that edits lines, the characters by which it does, the side that echoes, and how much
+/// of a line waits at the client.
 #[derive(Clone, Copy, PartialEq, Eq)]
 pub struct Terms {
     /// LINEMODE is on (RFC 1184).
@@ -19,6 +20,6 @@ pub struct Terms {
     pub echoed: bool,
     /// The server suppresses GO AHEAD (RFC 858).
     pub suppressed: bool,
-    /// How many bytes of the half line are held at this end.
+    /// The number of bytes of the half-typed line that the client holds.
     pub held: usize,
 }

@@ -1,4 +1,4 @@
-//! Laws of the definitions alone.
+//! Laws of the terminal, only over the definitions.
 
 ghost use Rattle.std.specs.Prelude.{◌≡◌, ℕ, Bool, false, Some, List, map};
 ghost use Rattle.tn_discipline.specs.Canon.{Canon};
@@ -15,8 +15,8 @@ ghost use Rattle.tn_cores.specs.declared.server.{messages.ServerMark.ServerMark,
 
 use tn_jobs::laws::one_job_changes;
 
-/// What goes to the foreground job is a prefix of the history's entries, in order, each once, whatever
-/// failed.
+/// The entries that go to the foreground job are a prefix of the history's entries, in order, each
+/// once, whichever call failed.
 pub fn entries_go_in_order()
     ensures { (opens : Bool) (canon : Canon) (editing : Editing) (jobs : Jobs)
         (marked : List (Message × ServerMark)) (new : Run) →
@@ -24,8 +24,8 @@ pub fn entries_go_in_order()
         GivesPrefix new.puts new.history }
 {}
 
-/// The stream of a run is the first bytes of its pieces, and its entries are those of the stream's items
-/// alone.
+/// The stream of a run is the first bytes of its pieces, and its entries are those of the stream's
+/// items.
 pub fn pieces_are_heard()
     ensures { (opens : Bool) (canon : Canon) (editing : Editing) (jobs : Jobs)
         (marked : List (Message × ServerMark)) (new : Run) →
@@ -33,7 +33,7 @@ pub fn pieces_are_heard()
         Hears canon editing (map (λ m. m.0) marked) new }
 {}
 
-/// Where a run ends by a hang-up, all pieces were heard, and all entries were put before an end was.
+/// If a run ends by a hang-up, all pieces were read, and all entries were put before an end was.
 pub fn all_goes_before_a_hang_up()
     ensures { (opens : Bool) (canon : Canon) (editing : Editing) (jobs : Jobs) (id : ℕ)
         (marked : List (Message × ServerMark)) (new : Run) →
@@ -55,7 +55,7 @@ pub fn faults_have_causes()
         IsFaultCause opens (run_after_opening opens (start canon editing jobs)) marked fault }
 {}
 
-/// What is typed is echoed or not as the job in the foreground asked. No other message changes that.
+/// Typed keys are echoed or not as the job in the foreground asked. No other message changes that.
 pub fn echo_is_as_asked()
     ensures { (c new : Run) (message : Message) (mark : ServerMark) → Turns c (message, mark) new →
         is_echoing new ≡ echo_after c message }
@@ -69,8 +69,8 @@ pub fn welcome_messages_find_room()
         c.progress.ended ≡ too_far_ahead }
 {}
 
-/// What was put for the foreground job, and its request that waits, are no more than it has asked for: no put
-/// finds an entry that was put before and was not asked for.
+/// The entries that were put for the foreground job, and its request that waits, are no more than
+/// its requests: no put finds an entry that was put before without a request.
 pub fn puts_answer_requests()
     ensures { (opens : Bool) (canon : Canon) (editing : Editing) (jobs : Jobs)
         (marked : List (Message × ServerMark)) (new : Run) →

@@ -1,21 +1,21 @@
-//! What the terminal answers to a message.
+//! The terminal's answers to a message.
 
 use tn_discipline::Entry;
 use tn_server::ServerFault;
 
-/// How far a message was done.
+/// The mark of a message: how far it was done.
 #[derive(Clone, Copy, Debug, PartialEq, Eq)]
 pub enum ServerMark {
-    /// Wholly, and what it appended was written.
+    /// The message was done wholly, and what it appended was written.
     Whole,
-    /// Wholly, but a write failed.
+    /// The message was done wholly, but a write failed.
     WriteFailed,
     /// A call of the server end was refused, after what the message gives to the foreground job was put
     /// for it, or before.
     Refused { fault: ServerFault, put: bool },
 }
 
-/// What goes to the foreground job.
+/// The entry that goes to the foreground job, if any.
 #[derive(Debug, Drop, PartialEq, Eq)]
 pub enum Put {
     Nothing,
@@ -24,8 +24,8 @@ pub enum Put {
     End,
 }
 
-/// What a message led to: what goes to the foreground job; what goes there once something failed; and
-/// how far the message was done.
+/// The outcome of a message: the entry for the foreground job; the one for it if something failed;
+/// and how far the message was done.
 #[derive(Drop)]
 pub struct MessageOutcome {
     pub put: Put,

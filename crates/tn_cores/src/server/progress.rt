@@ -1,18 +1,18 @@
-//! How far a session is: all that the terminal knows beside the server end and the jobs.
+//! The progress of a session: all of the terminal's state besides the server end and the jobs.
 
 ghost use Rattle.std.specs.Prelude.{◌≡◌};
 ghost use Rattle.tn_cores.specs.server.Counting as counting;
 
 use crate::faults::Ended;
 
-/// How far a session is.
+/// The progress of a session.
 #[derive(Clone, Copy, Debug, PartialEq, Eq)]
 pub struct ServerProgress {
     /// A request of the foreground job waits for an entry.
     pub asks: bool,
-    /// No more bytes come from the network.
+    /// Whether no more bytes come from the network.
     pub at_end: bool,
-    /// Nothing has any effect any more.
+    /// Whether nothing has any effect any more.
     pub over: bool,
     pub ended: Ended,
     /// The pieces that had their effect.

@@ -1,4 +1,4 @@
-//! The terminal of a session, which alone uses the server end.
+//! The terminal of a session; only the terminal uses the server end.
 
 ghost use Rattle.std.specs.Prelude.{◌≡◌, ◌≤◌, ◌<◌, ◌&&◌, ℕ, List, length, true, IsTrue, false, IsFalse, OnOk};
 ghost use Rattle.std.specs.Prelude.{OnErr, IfOk, IfErr, IfNone, None, Some, [], ◌∷◌, ◌++◌, All, MatchResult};
@@ -33,17 +33,17 @@ use tn_jobs::{After, JobId, JobState, Table, Verdict, Why, judge};
 use tn_pty::QUEUE_SYMBOLS;
 use tn_server::{Editing, ServerEnd, ServerFault};
 
-/// How many entries may wait for one more piece to be welcome.
+/// The most entries that may wait for one more piece to be welcome.
 const MAX_BEFORE_PIECE: usize = 511;
 
-/// How many bytes the lines among them may have. With those of one more piece, and of the half-typed line
-/// that it may end, at most 64 KB wait.
+/// The most bytes that the lines among them may have. With those of one more piece, and of the
+/// half-typed line that it may end, at most 64 KB wait.
 const MAX_BYTES_BEFORE_PIECE: usize = 60_000;
 
-/// How many entries wait at most.
+/// The most entries that wait.
 const MAX_WAITING: usize = 1_024;
 
-/// How many bytes a welcome piece has at most.
+/// The most bytes of a welcome piece.
 pub const MAX_PIECE: usize = 512;
 
 /// The terminal of a session.
@@ -90,8 +90,11 @@ fn pull_all(end: &mut ServerEnd, out: &mut Vec<u8>) -> Result<(), ServerFault>
 }
 
 impl Term {
-    /// Starts the end, appends the opening words, and wishes for editing at one side. It fails only when
-    /// out of memory.
+    /// Starts the end, appends the opening messages, and requests that one side edit lines.
+    ///
+    /// # Errors
+    ///
+    /// - `Memory`: there is no memory for the terminal or for the messages.
     pub fn start(
         alloc: Global,
         settings: Settings,
@@ -121,7 +124,7 @@ impl Term {
         })
     }
 
-    // All symbols are pulled.
+    // Pulls all symbols.
     fn flush(&mut self, out: &mut Vec<u8>) -> Result<(), ServerFault>
         requires { IsFalse self.old.progress.over }
         ensures ok { OnOk result (AdvancesRun run.flush self.old out.old.items out.new.items [] self.new) }
@@ -134,7 +137,7 @@ impl Term {
         Ok(())
     }
 
-    // A part of a text is written, and all symbols are pulled.
+    // Writes a part of a text, and pulls all symbols.
     fn show_part(&mut self, part: &[u8], out: &mut Vec<u8>) -> Result<(), ServerFault>
         requires { IsFalse self.old.progress.over }
         ensures ok { OnOk result
@@ -151,7 +154,7 @@ impl Term {
         Ok(())
     }
 
-    // A text is written in parts, and each is pulled.
+    // Writes a text in parts, and pulls each.
     fn show(&mut self, text: &[u8], out: &mut Vec<u8>) -> Result<(), ServerFault>
         requires { IsFalse self.old.progress.over }
         ensures ok { OnOk result ((parts : List (List ℕ)) × (concat parts ≡ text.now) × All run.IsPart parts ×
@@ -173,7 +176,7 @@ impl Term {
         Ok(())
     }
 
-    // A text whose verdict lets it be written.
+    // Writes a text, if its verdict lets it be written.
     fn show_if(&mut self, writes: bool, text: &[u8], out: &mut Vec<u8>) -> Result<(), ServerFault>
         requires { IsFalse self.old.progress.over }
         ensures ok { OnOk result ((parts : List (List ℕ)) × run.Cuts writes text.now parts ×
@@ -192,7 +195,7 @@ impl Term {
         Ok(())
     }
 
-    // A text whose verdict lets it be written, and then all symbols are pulled.
+    // Writes a text, if its verdict lets it be written, and then pulls all symbols.
     fn show_all(&mut self, writes: bool, text: &[u8], out: &mut Vec<u8>) -> Result<(), ServerFault>
         requires { IsFalse self.old.progress.over }
         ensures ok { OnOk result ((parts : List (List ℕ)) × run.Cuts writes text.now parts ×
@@ -210,8 +213,8 @@ impl Term {
         Ok(())
     }
 
-    // The first entry that waits is asked for: it goes to the foreground job, or the request waits or is
-    // answered by the end.
+    // Asks for the first entry that waits: it goes to the foreground job, or the request waits or
+    // is answered by the end.
     fn ask(&mut self, out: &mut Vec<u8>) -> Result<Put, ServerFault>
         requires { IsFalse self.old.progress.over }
         ensures ok { IfOk result (λ put.
@@ -236,7 +239,7 @@ impl Term {
         }
     }
 
-    // What comes from the network.
+    // Feeds the end the bytes from the network.
     fn feed(&mut self, piece: &[u8], out: &mut Vec<u8>) -> Result<(), ServerFault>
         requires { IsFalse self.old.progress.over }
         ensures ok { OnOk result (Feeds self.old piece.now out.old.items out.new.items self.new) }
@@ -257,7 +260,7 @@ impl Term {
         }
     }
 
-    // A request that waits is answered by the end, and no more bytes come.
+    // Answers a request that waits by the end; no more bytes come.
     fn hang_up(&mut self) -> Put
         requires { IsFalse self.old.progress.over }
         ensures does { (x : List ℕ) → AdvancesRun run.hang_up self.old x x (run.puts_of result) self.new }
@@ -268,7 +271,7 @@ impl Term {
         put
     }
 
-    // A request that waits is answered by the end, and nothing has any effect from here on.
+    // Answers a request that waits by the end; nothing has any effect from then on.
     fn halt(&mut self) -> Put
         ensures is { self.new ≡ record self.old { progress = counting.after_halt self.old.progress } }
         ensures put { run.puts_of result ≡ run.end_if self.old.progress.asks }
@@ -286,7 +289,7 @@ impl Term {
         self.progress = self.progress.ends(ended);
     }
 
-    // Where a job that could go on stands from here on.
+    // Sets the next state of a job that could go on.
     fn moves(&mut self, id: JobId, state: JobState, next: JobState)
         requires on { IsFalse self.old.progress.over }
         requires held { state_at self.old.table id.0 ≡ Some state }
@@ -331,7 +334,7 @@ impl Term {
         }
     }
 
-    // What is done once a message has had its effect.
+    // Completes a message that has had its effect.
     fn finish(&mut self, put: Put, out: &mut Vec<u8>) -> Result<Put, Stuck>
         requires { IsFalse self.old.progress.over }
         ensures ok { IfOk result (λ p. (p ≡ put) ×
@@ -351,7 +354,7 @@ impl Term {
         }
     }
 
-    // A reaction that the table's verdict lets have its effect.
+    // Handles a reaction that the table's verdict lets have its effect.
     fn judged(
         &mut self,
         id: JobId,
@@ -425,7 +428,7 @@ impl Term {
         }
     }
 
-    // The echo that this job asks for: only the job in the foreground gets it.
+    // Returns the echo that this job asks for: only the job in the foreground gets it.
     fn echo_by(&self, id: JobId, after: After) -> Option<bool>
         ensures { result ≡ run.echo_by (is_foreground (state_at self.now.table id.0)) after }
     {
@@ -435,7 +438,7 @@ impl Term {
         }
     }
 
-    // What is typed is echoed from here on or not, or as before.
+    // Turns the echo of typed keys on or off, or leaves it.
     fn turn_echo(&mut self, echo: Option<bool>, out: &mut Vec<u8>) -> Result<(), ServerFault>
         requires { IsFalse self.old.progress.over }
         ensures ok { OnOk result
@@ -455,7 +458,7 @@ impl Term {
         }
     }
 
-    // A job's reaction: the echo that it asks for, and then its text and what comes next.
+    // Handles a job's reaction: the echo that it asks for, and then its text and what comes next.
     fn react(
         &mut self,
         id: JobId,
@@ -539,7 +542,7 @@ impl Term {
         }
     }
 
-    // A message that has its effect.
+    // Handles a message that has its effect.
     fn act(&mut self, message: Message, out: &mut Vec<u8>) -> Result<Put, Stuck>
         requires { IsFalse self.old.progress.over }
         ensures ok { IfOk result (λ put.
@@ -568,7 +571,7 @@ impl Term {
         }
     }
 
-    // Something failed: nothing has any effect from here on. Returns what goes to the foreground job.
+    // Fails: nothing has any effect from then on. It returns the entry for the foreground job.
     fn fails(&mut self, fault: SessionFault) -> Put
         ensures progress { self.new.progress ≡
             counting.after_halt (counting.after_end (Ended.Fault fault) self.old.progress) }
@@ -579,8 +582,8 @@ impl Term {
         put
     }
 
-    /// Tells that a write failed: nothing has any effect from here on. Returns what goes to the
-    /// foreground job.
+    /// Takes the report that a write failed: nothing has any effect from then on. It returns the
+    /// entry for the foreground job.
     pub fn write_failed(&mut self) -> Put
         ensures leads { (c : Run) → LeadsTo c self.old → LeadsTo (run.fail SessionFault.Write c) self.new }
         ensures puts { (c : Run) → LeadsTo c self.old →
@@ -590,14 +593,14 @@ impl Term {
         self.fails(SessionFault::Write)
     }
 
-    /// How far the session is.
+    /// Returns the progress of the session.
     pub fn progress(&self) -> ServerProgress
         ensures { result ≡ self.now.progress }
     {
         self.progress
     }
 
-    /// How far it is with what was typed.
+    /// Returns how far it is with the typed keys.
     pub fn typed(&self) -> Typed {
         Typed {
             pieces: self.progress.pieces,
@@ -606,7 +609,7 @@ impl Term {
         }
     }
 
-    /// The size of the client's window in characters; 0 leaves a side open (RFC 1073).
+    /// Returns the size of the client's window in characters; 0 leaves a dimension open (RFC 1073).
     pub fn size(&self) -> WindowSize
         ensures { (c : Run) → LeadsTo c self.now → IsFalse self.now.progress.over →
             (result.width, result.height) ≡ size c.history }
@@ -615,7 +618,7 @@ impl Term {
         WindowSize { width, height }
     }
 
-    // Whether an interrupt or a quit waits for the foreground job.
+    // Returns whether an interrupt or a quit waits for the foreground job.
     fn is_interrupted(&self) -> bool {
         for index in 0..MAX_WAITING {
             match self.end.waiting(index) {
@@ -627,9 +630,10 @@ impl Term {
         false
     }
 
-    /// Whether one more piece is welcome: at most 511 entries wait, whose lines have at most 60,000 bytes, or
-    /// nothing has any effect any more. So a piece of 512 bytes finds room for its entries: each byte makes
-    /// one at most, and the first may make another of a CR that came last before it.
+    /// Returns whether one more piece is welcome: at most 511 entries wait, whose lines have at
+    /// most 60,000 bytes, or nothing has any effect any more. So a piece of 512 bytes finds room
+    /// for its entries: each byte makes at most one, and the first may make another of a CR that
+    /// came last before it.
     pub fn is_welcoming(&self) -> bool
         ensures room { (c : Run) → LeadsTo c self.now → IsTrue result → IsFalse self.now.progress.over →
             HasRoom (waiting c.history) }
@@ -645,7 +649,7 @@ impl Term {
         }
     }
 
-    // Whether the lines that wait, of few entries, are short.
+    // Returns whether the lines that wait, of few entries, are short.
     fn has_few_bytes(&self) -> bool
         requires on { IsFalse self.now.progress.over }
         requires few { (c : Run) → LeadsTo c self.now → length (waiting c.history) ≤ max_before_piece }
@@ -670,9 +674,9 @@ impl Term {
         true
     }
 
-    /// Whether this message is welcome now: a piece has at most 512 bytes, and comes where one more is
-    /// welcome. Any other message always is. So no welcome message ends the session because too many entries
-    /// wait.
+    /// Returns whether this message is welcome: a piece has at most 512 bytes, and comes when one
+    /// more is welcome. Any other message always is. So no welcome message ends the session because
+    /// too many entries wait.
     pub fn welcomes(&self, message: &Message) -> bool
         ensures welcome { (c : Run) → LeadsTo c self.now → IsTrue result → IsWelcome c message.now }
         ensures unwelcome { (c : Run) → LeadsTo c self.now → IsFalse result → IsUnwelcome c message.now }
@@ -715,7 +719,7 @@ impl Term {
     }
 }
 
-// How many bytes an entry has if it is a line.
+// Returns the number of bytes of an entry if it is a line.
 fn line_bytes(entry: &Entry) -> usize
     ensures { result ≡ line_bytes (entry.now ∷ []) }
 {
@@ -754,7 +758,7 @@ fn take_out(table: &mut Table, id: JobId, state: JobState)
     }
 }
 
-// What a message leads to once nothing has any effect.
+// Returns the entry that a message gives once nothing has any effect.
 fn idle_put(message: &Message) -> Put
     ensures { run.puts_of result ≡ run.idle_puts message.now }
 {
@@ -764,7 +768,7 @@ fn idle_put(message: &Message) -> Put
     }
 }
 
-// The end, where a request is answered so.
+// Returns the end, if that answers a request.
 fn end_if(ends: bool) -> Put
     ensures { run.puts_of result ≡ run.end_if ends }
 {

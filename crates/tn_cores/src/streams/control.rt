@@ -1,6 +1,6 @@
-//! What a user asks for between the keys.
+//! The requests of a user between the keys.
 
-/// What a user asks for between keys: a control function (RFC 854, "Standard representation of control
+/// A user's request between keys: a control function (RFC 854, "Standard representation of control
 /// functions"), or a new line.
 #[derive(Clone, Copy, Debug, PartialEq, Eq)]
 pub enum Control {

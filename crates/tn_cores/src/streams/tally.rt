@@ -7,8 +7,8 @@ ghost use Rattle.tn_cores.specs.streams.Counting.{told_by, no_calls, failed_afte
 use crate::streams::is_interrupted;
 use std::io::Result;
 
-/// How many calls were made, and how many of them failed. A count that has reached the greatest `u64`
-/// stays there, and tells nothing any more.
+/// The number of calls that were made, and how many of them failed. A count that has reached the
+/// greatest `u64` stays there, and shows nothing any more.
 #[derive(Clone, Copy, PartialEq, Eq)]
 pub struct Tally {
     pub(crate) made: u64,
@@ -16,14 +16,14 @@ pub struct Tally {
 }
 
 impl Tally {
-    /// No call was made.
+    /// Makes the count of no call.
     pub fn new() -> Tally
         ensures { told_by result ≡ no_calls }
     {
         Tally { made: 0, failed: 0 }
     }
 
-    /// How many of the calls failed.
+    /// Returns the number of calls that failed.
     pub fn failed(self) -> u64
         ensures { result ≡ self.failed }
     {

@@ -5,8 +5,8 @@ ghost use Rattle.tn_cores.specs.streams.{Sending.StaysOpen, Writing.{Tells, Writ
 
 use crate::streams::{Drain, is_interrupted};
 
-/// Writes these bytes, or the first of them where a write fails, and returns how many it wrote. A write that
-/// takes none has failed; one that a signal interrupts is made again.
+/// Writes these bytes, or the first of them if a write fails, and returns how many it wrote. A
+/// write that takes none has failed; one that a signal interrupts is made again.
 pub fn write_front<W: Drain>(writer: &mut W, bytes: &[u8]) -> usize
     ensures bound { result ≤ length bytes.now }
     ensures writes { Appends (W.contents writer.old) (W.contents writer.new) (take result bytes.now) }
@@ -30,8 +30,8 @@ pub fn write_front<W: Drain>(writer: &mut W, bytes: &[u8]) -> usize
     at
 }
 
-/// Writes these bytes one write after another, and returns true. Where a write fails (see `write_front`) it
-/// stops, and returns false: the first of them are written.
+/// Writes these bytes one write after another, and returns true. If a write fails (see
+/// `write_front`), it stops and returns false: the first of them are written.
 pub fn write_all<W: Drain>(writer: &mut W, bytes: &[u8]) -> bool
     ensures writes { Writes result (W.contents writer.old) (W.contents writer.new) bytes.now }
     ensures tells { Tells result (W.told writer.old) (W.told writer.new) }

@@ -39,7 +39,7 @@ quiet_gain line (role.Eol2 byte) quiet = cc
 quiet_gain line role.Eof quiet = cc
 quiet_gain line (role.Signal sig) quiet = cc
 
--- and so do several
+-- several keys that make no entry give none
 pub quiet_gains : (settings : Settings) (keys : List ℕ) (line : HalfLine) → All (IsQuiet settings) keys → gains_from line (each_role settings keys) ≡ []
 quiet_gains settings [] line quiet = refl
 quiet_gains settings (key ∷ keys) line quiet =
@@ -49,7 +49,7 @@ quiet_gains settings (key ∷ keys) line quiet =
     ap (λ es. es ++ gains_from (line_after line r) (each_role settings keys)) (quiet_gain line r first)
     ∙ quiet_gains settings keys (line_after line r) rest
 
--- what they do is what the whole lists of keys say
+-- their effect is the one that the whole lists of keys give
 pub quiet_advance : (settings : Settings) (keys : List ℕ) (old new : HalfLine) → All (IsQuiet settings) keys
     → new ≡ line_after_all old (each_role settings keys) → Advances old (roles_of settings keys) [] new
 quiet_advance settings keys old new quiet is =
@@ -60,7 +60,7 @@ quiet_advance settings keys old new quiet is =
 pub plain_quiet : (settings : Settings) (keys : List ℕ) → All (IsPlain settings) keys → All (IsQuiet settings) keys
 plain_quiet settings keys plain = λ k d lt. ap gives_entry (plain k d lt)
 
--- and are ordinary
+-- keys that join the line as they are have ordinary roles
 pub plain_each : (settings : Settings) (keys : List ℕ) → All (IsPlain settings) keys → each_role settings keys ≡ ordinary_roles keys
 plain_each settings [] plain = refl
 plain_each settings (key ∷ keys) plain =
@@ -81,7 +81,7 @@ first_within zero keys some there = absurd (omega (arith, some))
 first_within (suc m) [] some there = absurd (omega (arith, there))
 first_within (suc m) (key ∷ keys) some there = (omega arith, refl)
 
--- what a key that closes a line gives, and what it leaves
+-- the entry that a key which closes a line gives, and the line that it leaves
 pub closing_effect : (line : HalfLine) (r : Role) → IsClosing r → effect_of line r ≡ effect.Gives (line_of (with_byte line.held (closing_byte r)))
 closing_effect line role.Nl closes = refl
 closing_effect line (role.Eol byte) closes = refl

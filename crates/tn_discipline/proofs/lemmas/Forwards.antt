@@ -1,4 +1,4 @@
--- What is said of every history is said by the half line alone, and the other way round.
+-- A statement about every history follows from the half-typed line, and the other way round.
 use Rattle.std.proofs.{Common.{◌≡◌, ℕ, ◌<◌, List, [], ◌∷◌, ◌++◌, length, refl, sym, ap, ◌∙◌, arith, length-append}, lemmas.List.append_cancel_left}
 use Rattle.tn_discipline.specs.{HalfLine.{HalfLine, line_length}, Steps.{half_all, gain_all}, Entries.{entries_of, half_of}, declared.keys.Role.Role}
 use Rattle.tn_discipline.specs.{Advancing.{LeadsTo, Advances, AdvancesFromLine}, declared.reads.Entry.Entry}

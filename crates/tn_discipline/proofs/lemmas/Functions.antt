@@ -56,7 +56,7 @@ or_both : (a b : Bool) → (a || b) ≡ false → (a ≡ false) × (b ≡ false)
 or_both true b h = cc
 or_both false b h = (refl, h)
 
--- a function is among more where it is the first of them, or among the rest
+-- a function is among more if it is the first of them, or among the rest
 pub among_more : (f g : Func) (gs : List Func) → is_among f (g ∷ gs) ≡ true → (g ≡ f) ⊎ (is_among f gs ≡ true)
 among_more f g gs h =
     elim (or_either (is_same g f) (is_among f gs) h) [ inl e ↦ inl (same_function g f e) | inr rest ↦ inr rest ]
@@ -73,7 +73,7 @@ settable_of_slot c f byte h = by_test (is_settable f) refl
     by_test true e = e
     by_test false e = let none : slot c f ≡ None = unset c f e in cc
 
--- the first of these functions that passes a test, where one does that no other passes
+-- the first of these functions that passes a test, if one does that no other passes
 pub finds : (p : Func → Bool) (f : Func) (fs : List Func) → is_among f fs ≡ true → p f ≡ true → ((g : Func) → p g ≡ true → g ≡ f) → find p fs ≡ Some f
 finds p f [] among passes only = cc
 finds p f (g ∷ gs) among passes only = by_test (p g) refl (λ rest. finds p f gs rest passes only)
@@ -83,7 +83,7 @@ finds p f (g ∷ gs) among passes only = by_test (p g) refl (λ rest. finds p f 
     by_test false e later =
         elim (among_more f g gs among) [ inl same ↦ let no : p g ≡ true = ap p same ∙ passes in cc | inr rest ↦ later rest ]
 
--- what is found passes the test, and is one of these
+-- the function that is found passes the test, and is one of these
 pub found : (p : Func → Bool) (f : Func) (fs : List Func) → find p fs ≡ Some f → (p f ≡ true) × (is_among f fs ≡ true)
 found p f [] h = cc
 found p f (g ∷ gs) h = by_test (p g) refl h (found p f gs)
@@ -103,7 +103,7 @@ found p f (g ∷ gs) h = by_test (p g) refl h (found p f gs)
     by_test false e h later = let rest = later h in (rest.0, or_right (is_same g f) (is_among f gs) rest.1)
 
 -- ALL BUT ONE
--- where no other function of these passes a test, one of them that passes it is that one
+-- if no other function of these passes a test, one of them that passes it is that one
 pub only_one : (p : Func → Bool) (k f : Func) (fs : List Func) → list_any (λ g. not (is_same g k) && p g) fs ≡ false → is_among f fs ≡ true → p f ≡ true → f ≡ k
 only_one p k f [] none among passes = cc
 only_one p k f (g ∷ gs) none among passes =
@@ -117,7 +117,7 @@ only_one p k f (g ∷ gs) none among passes =
     same_by true set h s = refl
     same_by false set h s = let both : set ≡ false = h in cc
 
--- a byte that isn't taken is the character of no other function
+-- a byte that is not taken is the character of no other function
 pub untaken : (c : Characters) (k : Func) (byte : ℕ) → is_taken c k byte ≡ false → (f : Func) → slot c f ≡ Some byte → f ≡ k
 untaken c k byte free f h =
     only_one (λ g. is_set_to (slot c g) byte) k f special_functions free (settable_of_slot c f byte h) (is_set (slot c f) byte h)
@@ -127,7 +127,7 @@ pub slot-with_slot : (c : Characters) (k : Func) (value : Option ℕ) → is_set
 slot-with_slot c func.Ip value h = refl
 slot-with_slot c _ value h = cc
 
--- both functions are told apart
+-- the two functions differ
 pub slot-with_slot-other : (c : Characters) (k f : Func) (value : Option ℕ) → is_same f k ≡ false → slot (with_slot c k value) f ≡ slot c f
 slot-with_slot-other c func.Ip func.Ip value h = cc
 slot-with_slot-other c _ func.Abort value h = cc

@@ -1,4 +1,4 @@
--- One more key: what it does to the entries and to the half line of any keys before it.
+-- One more key: what it does to the entries and to the half-typed line of any keys before it.
 use Rattle.std.proofs.Common.{◌≡◌, ◌≤◌, ℕ, zero, suc, ◌-◌, Bool, true, false, Option, Some, None, List, [], ◌∷◌, ◌++◌, length, reverse, refl, sym, ap, ◌∙◌}
 use Rattle.std.proofs.{Common.{if◌then◌else◌, subst, arith, append-nil, append_assoc, length-append, length-take}, lemmas.Grind.flat_map-append}
 use Rattle.std.proofs.lemmas.List.{reverse-append, reverse-reverse, take_at}
@@ -28,7 +28,7 @@ before_closed None x bytes [] l = refl
 before_closed None x bytes (p ∷ ps) l = refl
 before_closed (Some b) x bytes ps l = refl
 
--- a key that doesn't close goes into the last piece
+-- a key that does not close goes into the last piece
 cut-open : (xs : List Role) (r : Role) → closing_bytes r ≡ None → pieces_of (xs ++ r ∷ []) ≡ with_last (pieces_of xs) r
 cut-open [] r h = ap (λ o. cut_before o r (record { closed = []; last = [] })) h
 cut-open (x ∷ xs) r h = ap (cut_before (closing_bytes x) x) (cut-open xs r h) ∙ before_last (closing_bytes x) x r (pieces_of xs).closed (pieces_of xs).last
@@ -56,7 +56,7 @@ kept-erased zero (role.Ordinary b ∷ before) = sym (front-push (kept_backwards 
 kept-erased (suc n) (role.Ordinary b ∷ before) = kept-erased n before
 kept-erased n (_ ∷ before) = kept-erased n before
 
--- the entries of admitted keys, and the half line that they leave
+-- the entries of admitted keys, and the half-typed line that they leave
 abbrev entries_in : Pieces → List Entry
 entries_in pieces = flat_map piece_entries pieces.closed ++ signals pieces.last
 
@@ -81,7 +81,7 @@ entries-close a r bytes h =
     ap entries_in (cut-close a r bytes h)
     ∙ simp (append-nil, flat_map-append, append_assoc)
 
--- after admitted keys, one more admitted key
+-- the half-typed line that admitted keys and one more leave
 half-admitted : (a : List Role) (r : Role) → kept_bytes (pieces_of (a ++ r ∷ [])).last ≡ half_after (kept_bytes (pieces_of a).last) r
 half-admitted a (role.Ordinary byte) = half-open a (role.Ordinary byte) refl
 half-admitted a role.Erase = half-open a role.Erase refl ∙ kept-erased 0 (reverse (pieces_of a).last)
@@ -166,7 +166,7 @@ module _ (limit : ℕ) where
   entries-one_more h r = ap (λ x. entries_in (pieces_of x)) (admitted_after-append 0 h (r ∷ []))
       ∙ entries_by_test (is_dropped limit (count_of limit h) r) (admitted_roles limit h) r
 
-  -- The count is the length of the half line: said of the keys from the last to the first.
+  -- The count is the length of the half-typed line, by the keys from the last to the first.
   length_backwards : (back : List Role) → length (half_of limit (reverse back)) ≡ count_of limit (reverse back)
   length_backwards [] = refl
   length_backwards (r ∷ back) =
@@ -178,11 +178,11 @@ module _ (limit : ℕ) where
       ∙ sym (count_after-append 0 (reverse back) (r ∷ []))
       ∙ ap (count_after limit 0) (sym more)
 
-  -- The plain count after the admitted keys is the length of the half line.
+  -- The plain count after the admitted keys is the length of the half-typed line.
   pub length-half_of : (h : List Role) → length (half_of limit h) ≡ count_of limit h
   length-half_of h = subst (λ x. length (half_of limit x) ≡ count_after limit 0 x) (reverse-reverse h) (length_backwards (reverse h))
 
-  -- One more key, by the half line alone.
+  -- One more key, by the half-typed line only.
   pub half-next : (h : List Role) (r : Role) → half_of limit (h ++ r ∷ []) ≡ half_next limit (half_of limit h) r
   half-next h r = half-one_more h r ∙ ap (λ n. if is_dropped limit n r then half_of limit h else half_after (half_of limit h) r) (sym (length-half_of h))
 
@@ -190,7 +190,7 @@ module _ (limit : ℕ) where
   entries-next h r = entries-one_more h r ∙ ap (λ n. entries_of limit h ++ (if is_dropped limit n r then [] else gain_after (half_of limit h) r))
       (sym (length-half_of h))
 
-  -- a half line fits
+  -- a half-typed line fits
   fits_by_test : (b : Bool) (n : ℕ) (r : Role) → (is_dropped limit n r ≡ b) → n ≤ max_counted limit → (if b then n else next_count n r) ≤ max_counted limit
   fits_by_test true n r e h = h
   fits_by_test false n (role.Ordinary byte) e h = grind arith
@@ -209,7 +209,7 @@ module _ (limit : ℕ) where
   pub half_of-fits : (h : List Role) → length (half_of limit h) ≤ max_counted limit
   half_of-fits h = subst (λ n. n ≤ max_counted limit) (sym (length-half_of h)) (fits_after 0 h (omega arith))
 
-  -- the same for more keys
+  -- more keys, by the half-typed line only
   pub half-all : (h roles : List Role) → half_of limit (h ++ roles) ≡ half_all limit (half_of limit h) roles
   half-all h [] = ap (half_of limit) (append-nil h)
   half-all h (r ∷ roles) =

@@ -6,7 +6,7 @@ use Rattle.tn_discipline.specs.{Characters.{Characters, is_set_to}, declared.{te
 use Rattle.tn_discipline.specs.Keys.{mapped_key, signal_of, role_by_signal, role_of_mapped, roles_of, role_or_ignored, role_of_key, roles_from, literal_role}
 use Rattle.tn_discipline.specs.declared.keys.Role.TheVariants as role
 
--- a role that isn't Ignored
+-- a role that is not Ignored
 abbrev IsOne : Role → Type 0
 IsOne r = roles_from r ≡ r ∷ []
 
@@ -55,7 +55,7 @@ pub roles_of-push : (settings : Settings) (keys : List ℕ) (key : ℕ)
 roles_of-push settings keys key =
     roles_of-append settings keys (key ∷ []) ∙ ap (λ roles. roles_of settings keys ++ roles) (sym (roles_of-one settings key))
 
--- the role of a byte that is taken as it is isn't Ignored
+-- the role of a byte that is taken as it is is not Ignored
 pub literal_roles : (chars : Characters) (byte : ℕ) → roles_from (literal_role chars byte) ≡ literal_role chars byte ∷ []
 literal_roles chars byte =
     one_of (byte == 10) role.Nl _ refl

@@ -1,4 +1,4 @@
--- What each role does to a line, whatever keys led to it.
+-- The effect of each role on a line, after any keys that led to it.
 use Rattle.std.proofs.Common.{◌≡◌, ◌<◌, ◌≤◌, ℕ, ◌+◌, ◌-◌, min, Bool, true, false, List, [], ◌∷◌, ◌++◌, length, take, refl, sym, ap, subst, ◌∙◌, if◌then◌else◌}
 use Rattle.std.proofs.{Common.{arith, append-nil, append_assoc, length-append, length-take}, Math.Seq.take-append-add, lemmas.Bool.lt-ltb}
 use borrow.Author.Tests.{ltb-true, ltb-false}
@@ -15,11 +15,11 @@ empty_of : (xs : List ℕ) → length xs ≡ 0 → xs ≡ []
 empty_of [] h = refl
 empty_of (x ∷ xs) h = absurd (omega arith)
 
--- the length of the half line after keys that leave a line
+-- the length of the half-typed line after keys that leave a line
 pub length_at : (history : List Role) (line : HalfLine) → LeadsTo history line → length (half_of line.limit history) ≡ line_length line
 length_at history line leads = ap length leads.bytes ∙ length-append leads.sent line.held ∙ ap (λ n. n + length line.held) leads.count
 
--- and the count
+-- the count of the half-typed line after keys that leave a line
 pub count_at : (history : List Role) (line : HalfLine) → LeadsTo history line → count_of line.limit history ≡ line_length line
 count_at history line leads = sym (length-half_of line.limit history) ∙ length_at history line leads
 
@@ -108,7 +108,7 @@ ordinary_by old byte false test =
     advances_by old (record old { held = old.held ++ byte ∷ [] }) (role.Ordinary byte) [] test
     (λ sent count. (sent, count, append_assoc sent old.held (byte ∷ []))) refl (omega arith) refl
 
--- the last byte of two lists, where the second isn't empty
+-- the last byte of two lists, if the second is not empty
 front_of : (sent held : List ℕ) → 0 < length held → front (sent ++ held) ≡ sent ++ front held
 front_of sent held some =
     let count : length (sent ++ held) - 1 ≡ length sent + (length held - 1) = omega (arith, length-append sent held) in
@@ -138,7 +138,7 @@ erase_gains true ahead = refl
 erase_gains false true = refl
 erase_gains false false = refl
 
--- what a key of any role does is what the whole lists of keys say
+-- the effect of a key of any role is the one that the whole lists of keys give
 pub advances : (old : HalfLine) (r : Role) → Advances old (roles_from r) (effect_entries (effect_of old r)) (line_after old r)
 advances old role.Ignored = advances_nothing old
 advances old (role.Ordinary byte) = ordinary_by old byte (is_full old) refl
@@ -155,7 +155,7 @@ advances old role.Eof = advances_empty old role.Eof (line_of old.held ∷ []) re
 longer : (xs : List Role) (r : Role) → xs ++ r ∷ [] ≡ xs → ⊥
 longer xs r e = omega (arith, ap length e, length-append xs (r ∷ []))
 
--- what is admitted after one more key, by whether it is dropped
+-- the keys that are admitted after one more, by whether it is dropped
 admitted_at : (line : HalfLine) (r : Role) (b : Bool) (history : List Role) → is_dropped line.limit (line_length line) r ≡ b → LeadsTo history line
     → admitted_roles line.limit (history ++ r ∷ []) ≡ admitted_roles line.limit history ++ (if b then [] else r ∷ [])
 admitted_at line r b history test leads =
@@ -185,7 +185,7 @@ erase_not_dropped true ahead same = cc
 erase_not_dropped false true same = cc
 erase_not_dropped false false same = cc
 
--- a key is dropped exactly where it isn't admitted
+-- a key is dropped exactly if it is not admitted
 pub drops_exactly : (line : HalfLine) (r : Role) → DropsExactly line (roles_from r) (effect_of line r)
 drops_exactly line role.Ignored = drops_nothing line effect.Nothing (λ same. cc)
 drops_exactly line (role.Ordinary byte) = drops_by line byte (is_full line) refl
@@ -197,7 +197,7 @@ drops_exactly line (role.Eol byte) = drops_never line (role.Eol byte) (effect_of
 drops_exactly line (role.Eol2 byte) = drops_never line (role.Eol2 byte) (effect_of line (role.Eol2 byte)) refl (λ same. cc)
 drops_exactly line role.Eof = drops_never line role.Eof (effect_of line role.Eof) refl (λ same. cc)
 
--- what is handed on stays in the half line
+-- the bytes that are handed on stay in the half-typed line
 pub released_keeps : (line : HalfLine) → KeepsHalf line (line_released line)
 released_keeps line history leads =
     record {
@@ -206,7 +206,7 @@ released_keeps line history leads =
       bytes = leads.bytes ∙ sym (append-nil (leads.sent ++ line.held));
     }
 
--- and a half line of which all was handed on is one of any keys with as many bytes
+-- a half-typed line of which all was handed on is one of any keys with as many bytes
 pub resumed_leads : (limit ahead : ℕ) → LeadsWhereLong limit ahead (line_resumed limit ahead)
 resumed_leads limit ahead history long = record { sent = half_of limit history; count = long; bytes = sym (append-nil (half_of limit history)) }
 
@@ -217,7 +217,7 @@ count_more limit history r =
     length-half_of limit (history ++ roles_from r) ∙ count_after-append limit 0 history (roles_from r)
     ∙ ap (λ n. count_after limit n (roles_from r)) (sym (length-half_of limit history))
 
--- what a key leaves ahead is what was, but no more than it leaves of the line
+-- a key leaves as many bytes ahead as there were, but no more than it leaves of the line
 kept_least : (line : HalfLine) (byte : ℕ) (full : Bool) → (if full then line else record line { held = line.held ++ byte ∷ [] }).ahead
     ≡ min (line_length (if full then line else record line { held = line.held ++ byte ∷ [] })) line.ahead
 kept_least line byte true = omega arith

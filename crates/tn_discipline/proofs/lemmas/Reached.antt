@@ -1,4 +1,4 @@
--- Each half line that fits a line is left by some keys.
+-- Each half-typed line that fits a line is left by some keys.
 use Rattle.std.proofs.Common.{◌≡◌, ℕ, ◌+◌, ◌<◌, ◌==◌, Bool, false, List, [], ◌∷◌, ◌++◌, length, map, reverse, refl, sym, ap, subst, ◌∙◌, if◌then◌else◌, arith}
 use Rattle.std.proofs.{Common.length-append, lemmas.List.{reverse-append, reverse-reverse, length-reverse, length-replicate, map-append}}
 use Rattle.std.specs.Prelude.{replicate}

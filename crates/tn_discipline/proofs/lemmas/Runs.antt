@@ -26,7 +26,7 @@ advances_both old mid new xs ys gain more a b =
       limit = b.limit ∙ a.limit;
     }
 
--- what typed keys do, one after another, is what the whole lists of keys say
+-- the effect of typed keys, one after another, is the one that the whole lists of keys give
 pub keys_advance : (settings : Settings) (keys : List ℕ) (line : HalfLine)
     → Advances line (roles_of settings keys) (gains_from line (each_role settings keys)) (line_after_all line (each_role settings keys))
 keys_advance settings [] line = advances_nothing line
@@ -65,7 +65,7 @@ ordinary_advance (byte ∷ bytes) line =
 pub not_full : (line : HalfLine) → line_length line < max_counted line.limit → is_full line ≡ false
 not_full line h = grind arith
 
--- and has none
+-- the line has no room
 pub is_filled : (line : HalfLine) → line_length line ≡ max_counted line.limit → is_full line ≡ true
 is_filled line h = grind arith
 
@@ -84,7 +84,7 @@ all_kept (byte ∷ bytes) line fits =
     ∙ all_kept bytes mid (omega (arith, fits, length-append line.held (byte ∷ [])))
     ∙ ap (λ (held : List ℕ). record line { held = held }) (append_assoc line.held (byte ∷ []) bytes)
 
--- bytes that don't fit are dropped
+-- bytes that do not fit are dropped
 pub all_dropped : (bytes : List ℕ) (line : HalfLine) → line_length line ≡ max_counted line.limit → line_after_all line (ordinary_roles bytes) ≡ line
 all_dropped [] line full = refl
 all_dropped (byte ∷ bytes) line full =
@@ -97,7 +97,7 @@ rest_dropped : (line : HalfLine) (rest : List ℕ) → (0 < length rest → line
 rest_dropped line [] full = refl
 rest_dropped line (byte ∷ rest) full = all_dropped (byte ∷ rest) line (full (omega arith))
 
--- as many as fit are kept, and the others are dropped
+-- bytes of which as many as fit are kept, and the others are dropped
 pub front_kept : (line : HalfLine) (bytes : List ℕ) (n : ℕ) → n ≡ min (max_counted line.limit - line_length line) (length bytes)
     → line_length line ≤ max_counted line.limit → line_after_all line (ordinary_roles bytes) ≡ record line { held = line.held ++ take n bytes }
 front_kept line bytes n is fits =

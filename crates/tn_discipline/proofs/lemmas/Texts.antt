@@ -1,4 +1,4 @@
--- Each text that keys give has at most as many bytes as the limit says.
+-- Each text that keys give has at most as many bytes as the limit.
 use Rattle.std.proofs.Common.{◌≡◌, ◌≤◌, ◌+◌, ℕ, Bool, true, false, List, [], ◌∷◌, ◌++◌, length, refl, subst, sym, if◌then◌else◌, arith, length-append}
 use Rattle.std.proofs.lemmas.List.Elements.{All-nil, All-cons, All-append, All-same}
 use Rattle.std.specs.Prelude.{All}

@@ -24,7 +24,7 @@ pub record IsSimple (t : Terminal) (e : Editing) : Type 0 where
   pub whole : IsWhole t.keys.iutf8 e.refused
   pub fits : length (line_bytes e) ≤ max_counted t.canon.limit
 
--- what announces one byte has no more
+-- a byte that announces one byte has no more
 one_is_whole : (iutf8 : Bool) (byte : ℕ) → announced iutf8 byte ≡ 1 → IsWhole iutf8 (record { first = byte; length = 1 })
 one_is_whole iutf8 byte one more = by_tests (is_between 128 191 more) (announced iutf8 byte) one
   where
@@ -102,7 +102,7 @@ module _ (t : Terminal) (e : Editing) (simple : IsSimple t e) where
       let r = edit_role_of_key t key in
       ap (λ n. replicate n (becomes t.canon.settings.chars r key)) (once r h) ∙ ap (λ k. k ∷ []) (itself r key h)
 
-  -- and what it leaves is as simple
+  -- a byte that becomes itself leaves a line that is as simple
   byte_simple : (byte : ℕ) (kept refused joins : Bool) → announced t.keys.iutf8 byte ≡ 1 → joins ≡ false → refused ≡ false
       → (kept ≡ true → length (line_bytes e) + 1 ≤ max_counted t.canon.limit)
       → let joined = if joins then (newest e.characters ++ byte ∷ []) ∷ before_newest e.characters else (byte ∷ []) ∷ e.characters in

@@ -32,7 +32,7 @@ nothing_more true b = refl
 nothing_more false b = refl
 
 module _ (t : Terminal) where
-  -- these characters, and no byte ahead
+  -- a line of these characters, and no byte ahead
   abbrev typed : List (List ℕ) → Editing
   typed cs = record { ahead = []; characters = cs; refused = no_character }
 

@@ -1,4 +1,4 @@
--- What typed keys become edits the line.
+-- The keys that typed keys become edit the line.
 use Rattle.std.proofs.Common.{◌≡◌, ◌≤◌, ℕ, ◌+◌, ◌==◌, nat_le, Bool, true, false, not, ◌&&◌, ◌||◌, List, [], ◌∷◌, ◌++◌, length, map, replicate, refl, sym, ap, ◌∙◌}
 use Rattle.std.proofs.Common.{if◌then◌else◌, arith, append-nil, append_assoc}
 use Rattle.tn_discipline.specs.{Canon.{Canon, typed_entries, typed_half}, Keys.{role_of_key, roles_of, roles_from}, Steps.{front, half_next, gain_next, half_all, gain_all}}
@@ -33,7 +33,7 @@ has_room_for_one : (n wanted m : ℕ) → nat_le (n + wanted) m ≡ true → 1 �
 has_room_for_one n wanted m room some = grind arith
 
 module _ (t : Terminal) (e : Editing) where
-  -- what is kept there is not dropped at the plain terminal
+  -- a byte that is kept by the editor is not dropped at the plain terminal
   kept_is_not_dropped : (byte : ℕ) → is_kept t e byte ≡ true → is_dropped_there t e ≡ false
   kept_is_not_dropped byte kept =
       has_room_for_one (length (line_bytes e)) (wanted t.keys.iutf8 e.characters byte) (max_counted t.canon.limit)
@@ -70,7 +70,7 @@ module _ (t : Terminal) (e : Editing) where
   erased_word =
       erases_to t.canon.limit (line_bytes e) (line_bytes (word_erased t.keys.words e)) (word_erased_front t.keys.words e.ahead e.characters)
 
-  -- what a key becomes does what the key does
+  -- the keys that a key becomes have the effect of the key
   step_half : (r : EditRole) → half_all t.canon.limit (line_bytes e) (played_times r (times t e r)) ≡ line_bytes (edited_next t e r)
   step_half (Plain (role.Ordinary byte)) = byte_half byte (is_kept t e byte) (is_dropped_there t e) (kept_is_not_dropped byte) refl
   step_half (Plain role.Erase) = erased_newest e.ahead e.characters
@@ -123,7 +123,7 @@ module _ (canon : Canon) where
       ∙ ap (λ half. edited_gain e key.role ++ gain_all canon.limit half more) (step_half t e key.role)
       ∙ ap (λ gain. edited_gain e key.role ++ gain) (all_gains typed next)
 
-  -- after what was typed before
+  -- the half-typed line of keys that come after what was typed before
   pub same_half_by_role : (before : List Role) (typed : List Typed)
       → let e = after_half (half_of canon.limit before) in
       half_of canon.limit (before ++ expanded_roles canon e typed) ≡ line_bytes (typed_all canon e typed)

@@ -42,7 +42,7 @@ module _ {T : Type 0} (next : T → Triple → T) (answer : T → Triple → Opt
       grows ∙ ap (λ answers. answers ++ option_to_list reply) was ∙ append_assoc had _ _
       ∙ ap (λ answers. had ++ answers) (sym more ∙ ap (λ us. answers_along next answer c us) (sym (take_more ts i d within)))
 
-  -- how many answers there are after one more triple
+  -- the number of answers after one more triple
   pub length-more : (c : T) (ts : List Triple) (i : ℕ) (d : Triple) (table : T) (reply : Option Triple) → i < length ts
       → table ≡ table_after next c (take i ts) → reply ≡ answer table (get_or ts i d)
       → length (answers_along next answer c (take (i + 1) ts)) ≡ length (answers_along next answer c (take i ts)) + length (option_to_list reply)

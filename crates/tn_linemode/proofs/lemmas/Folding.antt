@@ -7,7 +7,7 @@ module _ {S E : Type 0} (step : S → E → S) where
   after_both s [] ys = refl
   after_both s (x ∷ xs) ys = after_both (step s x) xs ys
 
-  -- what no step changes
+  -- a part that no step changes
   pub kept_all : {V : Type 0} (part : S → V) → ((s : S) (e : E) → part (step s e) ≡ part s) → (s : S) (es : List E) → part (after_all step s es) ≡ part s
   kept_all part kept s [] = refl
   kept_all part kept s (e ∷ es) = kept_all part kept (step s e) es ∙ kept s e
@@ -19,7 +19,7 @@ module _ {S E W : Type 0} (step : S → E → S) (says : S → E → List W) whe
       ap (λ (said : List W). says s x ++ said) (said_both (step s x) xs ys)
       ∙ sym (append_assoc (says s x) (said_all step says (step s x) xs) (said_all step says (after_all step (step s x) xs) ys))
 
--- the state that a past leads to, if the past grows by the same events, and what was said in it
+-- the state to which a past leads, if the past grows by the same events, and what was sent in it
 module _ {H S E : Type 0} (next : H → E → H) (step : S → E → S) (LeadsTo : H → S → Type 0)
     (stands : (h : H) (s : S) (e : E) → LeadsTo h s → LeadsTo (next h e) (step s e)) where
   pub stands_after : (h : H) (s : S) (es : List E) → LeadsTo h s → LeadsTo (after_all next h es) (after_all step s es)

@@ -44,7 +44,7 @@ short_under on option params = short_if on option params (nat_le (length params)
 short_enough : (n : ℕ) → n ≤ 512 → nat_le n 512 ≡ true
 short_enough n h = grind (arith, nat_tests)
 
--- a list of local characters counts where its option is on
+-- a list of local characters counts if its option is on
 pub list_under : (on : Bool) (option : ℕ) (params : List ℕ) (triples : List Triple) → on ≡ true → length params ≤ 512 → Says option params (Slc triples)
     → payload_under on option params ≡ Some (Slc triples)
 list_under on option params triples is few says = rw (is, short_enough (length params) few) (told option params (Slc triples) says)
@@ -54,7 +54,7 @@ module _ (next : Characters → Triple → Characters) (answer : Characters → 
   empty_of [] h = refl
   empty_of (x ∷ xs) h = absurd (omega (arith, h))
 
-  -- the answers to a list, behind none, are no more than its triples
+  -- the answers to a list, with none before them, are no more than its triples
   pub answers_few : (c : Characters) (triples came before answers : List Triple) (most : ℕ) → answers ≡ before ++ answers_along next answer c triples
       → before ≡ [] → triples ≡ came → length came ≤ most → length answers ≤ most
   answers_few c triples came before answers most is none same few =
@@ -68,7 +68,7 @@ module _ (next : Characters → Triple → Characters) (answer : Characters → 
         few,
       )
 
-  -- and show that the list is not empty
+  -- answers to a list show that the list is not empty
   pub answered_some : (c : Characters) (triples before answers : List Triple) → answers ≡ before ++ answers_along next answer c triples → before ≡ []
       → answers ≢ [] → triples ≢ []
   answered_some c triples before answers is fresh some = λ none.

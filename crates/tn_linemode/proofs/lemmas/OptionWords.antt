@@ -1,4 +1,4 @@
--- The option words among what an end says.
+-- The option messages among the items that an end sends.
 use Rattle.std.proofs.Common.{◌≡◌, ℕ, Option, None, Some, List, [], ◌∷◌, ◌++◌, refl, ap}
 use Rattle.std.specs.Prelude.{option_to_list}
 use Rattle.tn_codes.specs.declared.{codes.Verb.Verb, triples.Triple.Triple}

@@ -1,4 +1,4 @@
--- What a piece of a stream brings, by the readings of the stream before it and with it.
+-- The items that a piece of a stream adds, by the readings of the stream before it and with it.
 use Rattle.std.proofs.{Common.{◌≡◌, ℕ, List, ◌++◌, refl, sym, ap, ◌∙◌, subst, append_assoc}, lemmas.List.append_cancel_left}
 use Rattle.tn_nvt.specs.{Stream.Reading, declared.items.Item.Item}
 use Rattle.tn_nvt.proofs.lemmas.Reading.{one_reading, reads_on}
@@ -9,7 +9,7 @@ pub same_more : (bytes : List ℕ) (a b more others : List Item) → a ≡ b →
 same_more bytes a b more others e r s =
     append_cancel_left b more others (ap (λ (xs : List Item). xs ++ more) (sym e) ∙ (one_reading bytes r.0 s.0 (a ++ more) (b ++ others) r.1 s.1).0)
 
--- what a piece brought in two parts
+-- the items that a piece brought in two parts
 pub record Parts (stream p q : List ℕ) (had more : List Item) : Type 0 where
   pub first : List Item
   pub second : List Item
@@ -17,7 +17,7 @@ pub record Parts (stream p q : List ℕ) (had more : List Item) : Type 0 where
   pub front : IsRead (stream ++ p) (had ++ first)
   pub all : IsRead ((stream ++ p) ++ q) ((had ++ first) ++ second)
 
--- where its first part has a reading
+-- if its first part has a reading
 pub part_in_two : (stream p q : List ℕ) (had more : List Item) → IsRead stream had → (read : List Item) × (rest : List ℕ) × Reading (stream ++ p) read rest
     → IsRead (stream ++ (p ++ q)) (had ++ more) → Parts stream p q had more
 part_in_two stream p q had more start r reads =

@@ -1,4 +1,4 @@
--- How long is what either end says, in its spelling.
+-- The length of all that either end sends, in its spelling.
 use Rattle.std.proofs.Common.{◌≡◌, ◌≢◌, ℕ, ◌+◌, ◌*◌, ◌≤◌, nat_le, Bool, true, false, ◌&&◌, Option, Some, None, option_to_list, List, [], ◌∷◌, ◌++◌, length, map}
 use Rattle.std.proofs.{Common.{refl, sym, ◌∙◌, ap, arith, append-nil, if◌then◌else◌}, lemmas.Grind.flat_map-append}
 use Rattle.std.specs.List.{flat_map}
@@ -95,7 +95,7 @@ triple_of-size f (Some byte) =
       doubled_within byte,
     )
 
--- and where the character is no IAC
+-- if the character is no IAC
 pub plain_triple-size : (f : Func) (v : Option ℕ) → v ≢ Some 255 → length (doubled_bytes (octets_of (triple_of f v))) ≡ 3
 plain_triple-size f None plain =
     omega (arith, triple_size (triple_of f None), doubled_alone (func_code f) (plain_code f), doubled_alone 0 (λ e. omega (arith, e)))
@@ -198,7 +198,7 @@ size-least option params = omega (arith, length-sub option params, doubled_some 
     doubled_least [] = omega arith
     doubled_least (b ∷ bytes) = omega (arith, length-doubled-cons b bytes, doubled_some b, doubled_least bytes)
 
--- and none of their bytes is spelled in more than two
+-- each byte of parameters is spelled in at most two
 pub doubled_most : (bytes : List ℕ) → length (doubled_bytes bytes) ≤ 2 * length bytes
 doubled_most [] = omega (arith, length-doubled-none)
 doubled_most (b ∷ bytes) = omega (arith, length-doubled-cons b bytes, doubled_within b, doubled_most bytes)

@@ -1,4 +1,4 @@
--- What was sent of a queue that was new, once both of its passes are joined.
+-- The bytes that were sent of a queue that was new, once both of its passes are joined.
 use Rattle.std.proofs.Common.{◌≡◌, ℕ, arith, length, List, [], ◌∷◌, ◌++◌, Option, Some, None, option_map, refl, sym, ap, ◌∙◌, subst, append_assoc}
 use Rattle.std.specs.Vec.{vec_items}
 use Rattle.tn_cores.specs.queue.Queue.{one_of, taker}
@@ -9,7 +9,7 @@ use Rattle.tn_nvt.specs.Prefixes.{IsPrefixOf}
 same_some : {A : Type 0} (a b : A) → Some a ≡ Some b → a ≡ b
 same_some a b e = cc
 
--- nothing stands behind the end
+-- nothing follows the end
 empty : (qs : Pieces) → length qs ≡ 0 → qs ≡ []
 empty [] e = refl
 empty (q ∷ qs) e = absurd (omega (arith, e))
@@ -33,7 +33,7 @@ module _ (v w u : PieceHand) (over : IsSettled v w u) where
   all_bytes : put_bytes u ≡ Some (bytes_of over.known.0)
   all_bytes = ap (λ (o : Option Pieces). option_map bytes_of o) is_put
 
-  -- what was put stays what was put
+  -- the pieces that were put stay put
   pub put_stays : put_bytes u ≡ put_bytes v
   put_stays = all_bytes ∙ sym (ap (λ (o : Option Pieces). option_map bytes_of o) over.known.1)
 

@@ -38,7 +38,7 @@ refuse_more dials [] address first last error each refused = (error, refused, re
 refuse_more dials (one ∷ tried) address first last error each refused =
     (each.0, each.1, refuse_more dials tried address each.0 last error each.2 refused)
 
--- of one more address, which suits, is what is left of all
+-- one more address, which suits, is added to those that suit
 pub one_suits : {A : Type 0} (suits : A → Bool) (tried : List A) (x : A) → suits x ≡ true
     → filter suits (tried ++ x ∷ []) ≡ filter suits tried ++ x ∷ []
 one_suits suits tried x is =
@@ -50,7 +50,7 @@ pub none_suits : {A : Type 0} (suits : A → Bool) (tried : List A) (x : A) → 
 none_suits suits tried x is =
     filter-append suits tried (x ∷ []) ∙ (ap (λ b. filter suits tried ++ cond b (x ∷ []) []) is ∙ append-nil (filter suits tried))
 
--- what suits, if all suit, is all
+-- the addresses that suit, if all suit, are all
 suit_all : (suits : SocketAddr → Bool) → ((a : SocketAddr) → suits a ≡ true) → (xs : List SocketAddr) → filter suits xs ≡ xs
 suit_all suits all [] = refl
 suit_all suits all (x ∷ xs) =

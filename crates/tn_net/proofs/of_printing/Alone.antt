@@ -6,7 +6,7 @@ use Rattle.tn_net.specs.printing.{Lines.{decoded, lines_of, EndsLine, max_data},
 use Rattle.tn_net.specs.declared.printing.printer.Prefix.{Prefix}
 use Rattle.tn_net.proofs.of_printing.Joining.{short_line}
 
--- of two fronts of one list, the longer goes on with what stands behind the shorter
+-- the longer of two fronts of one list goes on with what follows the shorter
 goes_on : (xs ys back others : List Item) → xs ++ back ≡ ys ++ others → length xs ≤ length ys → (more : List Item) × (ys ≡ xs ++ more) × (back ≡ more ++ others)
 goes_on [] ys back others e le = (ys, refl, e)
 goes_on (x ∷ xs) [] back others e le = absurd (omega arith)
@@ -25,7 +25,7 @@ same_bytes (x ∷ xs) (y ∷ ys) e =
     let tail : map Byte xs ≡ map Byte ys = cc in
     ap (λ z. z ∷ xs) head ∙ ap (λ (zs : List ℕ). y ∷ zs) (same_bytes xs ys tail)
 
--- what stands before bytes, among bytes, is bytes
+-- items before bytes, among bytes, are bytes
 bytes_before : (front : List Item) (xs ys : List ℕ) → map Byte xs ≡ front ++ map Byte ys → (bytes : List ℕ) × (front ≡ map Byte bytes)
     × (length bytes ≤ length xs)
 bytes_before [] xs ys e = ([], refl, omega arith)

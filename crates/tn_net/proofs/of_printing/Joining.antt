@@ -1,4 +1,4 @@
--- The lines of data with something behind them, and of an item that is no data.
+-- The lines of data with something after them, and of an item that is no data.
 use Rattle.std.proofs.Common.{◌≡◌, ℕ, ◌≤◌, List, [], ◌∷◌, ◌++◌, map, length, refl, sym, ap, ◌∙◌, arith, append-nil, append_assoc}
 use Rattle.std.proofs.lemmas.Grind.{flat_map-append}
 use Rattle.std.specs.List.{flat_map}
@@ -7,7 +7,7 @@ use Rattle.tn_net.specs.printing.Texts.{data_text, item_text}
 use Rattle.tn_net.specs.printing.Lines.{Part, run, single, byte_before, parts_of, part_lines, lines_of, whole_line, decoded, EndsLine, IsSingle, max_data}
 use Rattle.tn_net.proofs.of_printing.Cutting.{pieces_first, pieces_one}
 
--- data before parts, which join data right behind them
+-- data before parts, which join data right after them
 abbrev joined : List ℕ → List Part → List Part
 joined bytes [] = run bytes ∷ []
 joined bytes (run others ∷ parts) = run (bytes ++ others) ∷ parts
@@ -56,7 +56,7 @@ lines_of_data b bs =
     let parts : parts_of (map Byte (b ∷ bs)) ≡ run (b ∷ bs) ∷ [] = ap parts_of (sym (append-nil (map Byte (b ∷ bs)))) ∙ parts_of_data b bs [] in
     ap (flat_map part_lines) parts ∙ append-nil (part_lines (run (b ∷ bs)))
 
--- one line, where the data fit
+-- one line, if the data fit
 pub short_line : (b : ℕ) (bs : List ℕ) → length (b ∷ bs) ≤ max_data → lines_of (map Byte (b ∷ bs)) ≡ data_text (b ∷ bs) ∷ []
 short_line b bs len = lines_of_data b bs ∙ ap (map data_text) (pieces_one max_data b bs len)
 
@@ -104,7 +104,7 @@ pub decoded_none : (prefix : List ℕ) → decoded prefix [] ≡ []
 unfolding decoded
 decoded_none prefix = ap (flat_map (whole_line prefix)) lines_none
 
--- what follows the end of a line is printed behind it
+-- the items after the end of a line are printed after it
 pub decoded_both : (prefix : List ℕ) (xs ys : List Item) → EndsLine xs → decoded prefix (xs ++ ys) ≡ decoded prefix xs ++ decoded prefix ys
 unfolding decoded
 decoded_both prefix xs ys ends = ap (flat_map (whole_line prefix)) (ends ys) ∙ flat_map-append (whole_line prefix) (lines_of xs) (lines_of ys)

@@ -1,4 +1,4 @@
--- What was asked of a network, by several calls of it.
+-- The requests to a network, by several calls of it.
 use Rattle.std.specs.Prelude.{◌≡◌, ◌⊎◌, ℕ, zero, suc, Bool, true, false, eqb, codes, List, [], ◌∷◌, Contains}
 use Rattle.std.specs.{Prelude.{MatchResult, Option, Result, Ok, Err, IfOk}, List.{filter, starts_with}}
 use Rattle.std.specs.{IoError.error_kind, Net.ToAddrs.{HostAddrs, host_addrs}, declared.io.Error.Error}
@@ -14,8 +14,8 @@ RefuseAll dials [] first last = last ≡ first
 RefuseAll dials (address ∷ addresses) first last =
     (error : Error) × dials address (Err error) × RefuseAll dials addresses error last
 
--- each of these addresses was asked in vain, and this is the last error; where there are none, that nothing
--- was found
+-- each of these addresses was asked in vain, and this is the last error; if there are none, that nothing was
+-- found
 abbrev pub AreRefused : (SocketAddr → Result TcpStream Error → Type 0) → List SocketAddr → Error → Type 0
 AreRefused dials addresses last =
     (first : Error) × (error_kind first ≡ NotFound) × RefuseAll dials addresses first last
@@ -52,7 +52,8 @@ abbrev pub ReachesService : Bool → (Result TcpStream Error → Type 0) → (Re
 ReachesService true joins finds dials result = joins result
 ReachesService false joins finds dials result = Reaches finds dials result
 
--- where a listener is asked for: at this host and this port, or as it is handed in at this descriptor
+-- the place at which a listener is asked for: this host and this port, or the socket that is handed in at
+-- this descriptor
 pub record Place : Type 0 where
   pub host : List ℕ
   pub port : ℕ
@@ -78,7 +79,7 @@ abbrev pub AcceptsAtOne : (TcpListener → ℕ → Result (TcpStream × Peer) Er
 AcceptsAtOne accepts listeners number result =
     (listener : TcpListener) × Contains listeners listener × accepts listener number result
 
--- of these listeners, which are shared, so many connections were accepted
+-- this number of connections was accepted of these listeners, which are shared
 abbrev pub Accepts : (TcpListener → Result TcpListener Error → Type 0)
     → (TcpListener → ℕ → Result (TcpStream × Peer) Error → Type 0) → List TcpListener → ℕ → Type 0
 Accepts shares accepts listeners count =
@@ -95,8 +96,8 @@ abbrev pub ListensAt : (Place → Result TcpListener Error → Type 0) → List 
 ListensAt listens places (Ok listeners) = GiveEach listens places listeners
 ListensAt listens places (Err error) = AreRefusedAt listens places error
 
--- Listeners were asked for. If there are all of them, and all went well, so many connections of them were
--- accepted; if not, it failed by that error.
+-- Listeners were asked for. If there are all of them, and all went well, this number of connections of them
+-- was accepted; if not, the call failed by that error.
 abbrev pub Listens : {A E : Type 0} → (Place → Result TcpListener Error → Type 0)
     → (TcpListener → Result TcpListener Error → Type 0)
     → (TcpListener → ℕ → Result (TcpStream × Peer) Error → Type 0) → List Place → (A → ℕ)
@@ -107,7 +108,7 @@ Listens listens shares accepts places count_of fails result =
     (λ listeners. IfOk result (λ done. Accepts shares accepts listeners (count_of done)))
     (λ error. fails error result)
 
--- What is known of one network: what each of its calls gives evidence of.
+-- The known facts of one network: the evidence that each of its calls gives.
 pub record Asking : Type 1 where
   pub listens : List ℕ → ℕ → Option ℕ → Result TcpListener Error → Type 0
   pub shares : TcpListener → Result TcpListener Error → Type 0
@@ -115,6 +116,7 @@ pub record Asking : Type 1 where
   pub finds : List ℕ → ℕ → Result HostAddrs Error → Type 0
   pub dials : SocketAddr → Result TcpStream Error → Type 0
 
+-- the known facts of a network, by these relations of its calls
 abbrev pub asking : (List ℕ → ℕ → Option ℕ → Result TcpListener Error → Type 0)
     → (TcpListener → Result TcpListener Error → Type 0)
     → (TcpListener → ℕ → Result (TcpStream × Peer) Error → Type 0)
@@ -122,7 +124,7 @@ abbrev pub asking : (List ℕ → ℕ → Option ℕ → Result TcpListener Erro
 asking listens shares accepts finds dials =
     record { listens = listens; shares = shares; accepts = accepts; finds = finds; dials = dials }
 
--- what was asked of a network at a place
+-- the request to a network at a place
 abbrev pub at_place : (List ℕ → ℕ → Option ℕ → Result TcpListener Error → Type 0) → Place
     → Result TcpListener Error → Type 0
 at_place listens place = listens place.host place.port place.handed

@@ -1,10 +1,11 @@
--- How a connection is asked for, and which addresses are tried.
+-- The way in which a connection is asked for, and which addresses are tried.
 use Rattle.std.specs.Prelude.{Bool, true, false, ◌&&◌, Option, Some, None, option_map}
 use Rattle.std.specs.declared.net.{ip_addr.IpAddr.IpAddr, socket_addr.SocketAddr.SocketAddr}
 use Rattle.std.specs.declared.net.socket_addr.SocketAddr.TheVariants.{V4, V6}
 use Rattle.std.specs.declared.net.ip_addr.IpAddr.TheVariants as ip
 use Rattle.tn_net.specs.declared.network.dialing.{Dialing.Dialing, Family.{Family, TheVariants.{Ipv4, Ipv6}}}
 
+-- the family of an address
 abbrev pub family_of : IpAddr → Family
 family_of (ip.V4 address) = Ipv4
 family_of (ip.V6 address) = Ipv6

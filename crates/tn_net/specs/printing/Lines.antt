@@ -8,12 +8,12 @@ use Rattle.tn_net.specs.printing.Texts.{data_text, item_text}
 abbrev pub max_data : ℕ
 max_data = 64
 
--- what stands in lines of its own: data with none before or behind them, or one other item
+-- a part that is in lines of its own: data with none before or after them, or one other item
 pub data Part : Type 0 where
   run : List ℕ → Part
   single : Item → Part
 
--- a byte of data before other parts, which joins data right behind it
+-- a byte of data before other parts, which joins data right after it
 abbrev pub byte_before : ℕ → List Part → List Part
 byte_before b [] = run (b ∷ []) ∷ []
 byte_before b (run bytes ∷ parts) = run (b ∷ bytes) ∷ parts
@@ -40,7 +40,7 @@ unfoldable pub parts_of : List Item → List Part
 parts_of [] = []
 parts_of (item ∷ items) = item_before item (parts_of items)
 
--- the first pieces of bytes, so many at most, of this size each; the last piece has what is left
+-- the first pieces of bytes, at most this number, of this size each; the last piece has the rest
 unfoldable pub first_pieces : ℕ → ℕ → List ℕ → List (List ℕ)
 first_pieces size zero bytes = []
 first_pieces size (suc count) [] = []
@@ -60,7 +60,7 @@ part_lines (single item) = item_text item ∷ []
 unfoldable pub lines_of : List Item → List (List ℕ)
 lines_of items = flat_map part_lines (parts_of items)
 
--- a line as it is printed, behind a prefix
+-- a line as it is printed, after a prefix
 abbrev pub whole_line : List ℕ → List ℕ → List ℕ
 whole_line prefix line = prefix ++ line ++ codes "\n"
 
@@ -68,6 +68,6 @@ whole_line prefix line = prefix ++ line ++ codes "\n"
 unfoldable pub decoded : List ℕ → List Item → List ℕ
 decoded prefix items = flat_map (whole_line prefix) (lines_of items)
 
--- what follows these items begins a line of its own, whatever it is
+-- any item after these begins a line of its own
 abbrev pub EndsLine : List Item → Type 0
 EndsLine items = (more : List Item) → lines_of (items ++ more) ≡ lines_of items ++ lines_of more

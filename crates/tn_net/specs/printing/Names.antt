@@ -5,12 +5,14 @@ use Rattle.tn_codes.specs.declared.codes.{Command.Command, Verb.Verb}
 use Rattle.tn_codes.specs.declared.codes.Command.TheVariants as command
 use Rattle.tn_codes.specs.declared.codes.Verb.TheVariants as verb
 
+-- the name of a verb
 abbrev pub verb_name : Verb → List ℕ
 verb_name verb.Will = codes "WILL"
 verb_name verb.Wont = codes "WONT"
 verb_name verb.DoIt = codes "DO"
 verb_name verb.DontIt = codes "DONT"
 
+-- the name of a command
 abbrev pub command_name : Command → List ℕ
 command_name command.Eof = codes "EOF"
 command_name command.Susp = codes "SUSP"
@@ -26,7 +28,7 @@ command_name command.Ec = codes "EC"
 command_name command.El = codes "EL"
 command_name command.Ga = codes "GA"
 
--- nothing for an option that has no name here
+-- the name of an option, empty if it has none in this file
 unfoldable pub option_name : ℕ → List ℕ
 option_name option =
     if option == 0 then codes "BINARY"
@@ -116,7 +118,7 @@ func_name func =
     else if func == 30 then codes "EEOL"
     else []
 
--- of the two low bits of a modifier, which are 3 for the last
+-- the name of the level in the two low bits of a modifier, which are 3 for the last
 abbrev pub level_name : ℕ → List ℕ
 level_name level =
     if level == 0 then codes "NOSUPPORT"

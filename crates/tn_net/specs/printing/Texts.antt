@@ -20,19 +20,20 @@ byte_text b =
 abbrev pub data_text : List ℕ → List ℕ
 data_text bytes = codes "data \"" ++ flat_map byte_text bytes ++ codes "\""
 
--- the name, or the number where there is none
+-- the name, or the number if there is none
 abbrev pub name_or_number : List ℕ → ℕ → List ℕ
 name_or_number [] number = decimal number
 name_or_number (c ∷ cs) number = c ∷ cs
 
+-- an option as it is printed
 abbrev pub option_text : ℕ → List ℕ
 option_text option = name_or_number (option_name option) option
 
--- the word where this bit is set
+-- the word if this bit is set
 abbrev pub bit_word : ℕ → ℕ → List ℕ → List ℕ
 bit_word bits bit word = if bit_and bits bit == 0 then [] else word
 
--- the three high bits of a MODE mask, which have no names, where one of them is set
+-- the three high bits of a MODE mask, which have no names, if one of them is set
 abbrev pub high_bits_word : ℕ → List ℕ
 high_bits_word bits = if bits == 0 then [] else codes " " ++ encode_lower (bits ∷ [])
 
@@ -44,7 +45,7 @@ mode_words mask =
     ++ bit_word mask 4 (codes " MODE_ACK") ++ bit_word mask 8 (codes " SOFT_TAB")
     ++ bit_word mask 16 (codes " LIT_ECHO") ++ high_bits_word (bit_and mask 224)
 
--- the character where the mask has it
+-- the character if the mask has it
 abbrev pub character_word : Mask → ℕ → List ℕ
 character_word mask c = if has_character mask c then codes " " ++ encode_lower (c ∷ []) else []
 
@@ -59,6 +60,7 @@ modifier_text flags =
     level_name (bit_and flags 3) ++ bit_word flags 128 (codes "|ACK")
     ++ bit_word flags 64 (codes "|FLUSHIN") ++ bit_word flags 32 (codes "|FLUSHOUT")
 
+-- a triple as it is printed
 abbrev pub triple_text : Triple → List ℕ
 triple_text triple =
     name_or_number (func_name triple.func) triple.func ++ codes " " ++ modifier_text triple.flags
@@ -70,7 +72,7 @@ triples_words [] = []
 triples_words (triple ∷ triples) =
     codes " " ++ triple_text triple ++ flat_map (λ other. codes ", " ++ triple_text other) triples
 
--- what a payload says, each word behind a space
+-- the meaning of a payload, each word after a space
 abbrev pub payload_words : Payload → List ℕ
 payload_words (Naws width height) = codes " " ++ decimal width ++ codes " " ++ decimal height
 payload_words (Mode mask) = codes " MODE" ++ mode_words mask
@@ -80,7 +82,7 @@ payload_words ForwardYes = codes " WILL FORWARDMASK"
 payload_words ForwardNo = codes " WONT FORWARDMASK"
 payload_words (Slc triples) = codes " SLC" ++ triples_words triples
 
--- parameters, and what they say, if they say something
+-- parameters, and their meaning, if they have one
 abbrev pub parameters_words : List ℕ → Option Payload → List ℕ
 parameters_words params (Some payload) = payload_words payload
 parameters_words [] None = []

@@ -1,4 +1,4 @@
-//! What is asked of a network.
+//! The requests to a network.
 
 use crate::network::handed::{connection_of, listener_at};
 use crate::network::paths;
@@ -31,7 +31,7 @@ pub trait Network {
     // a connection of this listener, as the one of this number, counted from 0
     ghost accepts: { Self → TcpListener → ℕ → Result (TcpStream × Peer) Error → Type 0 };
 
-    // a connection is told these words and that no more comes
+    // a connection was sent these words and the end of the stream
     ghost dismisses: { Self → TcpStream → List ℕ → TcpStream → Type 0 };
 
     // the addresses of this host, with this port
@@ -59,8 +59,8 @@ pub trait Network {
     /// Removes the file of a listener at a path.
     fn remove(&self, listener: &TcpListener);
 
-    /// Tells a connection these words, and that no more comes. It is not closed. Where it takes them not,
-    /// they are dropped.
+    /// Sends a connection these words, and the end of the stream. It is not closed. If it does not
+    /// take them, they are dropped.
     fn dismiss(&self, stream: TcpStream, words: &[u8]) -> TcpStream
         ensures { dismisses self.now stream words.now result };
 
@@ -154,7 +154,7 @@ impl<H: Net<Listener = TcpListener, Stream = TcpStream> + Files<File = File>> Ne
     }
 }
 
-// The next connection of a listener.
+// Returns the next connection of a listener.
 fn next_of(listener: &TcpListener) -> io::Result<(TcpStream, Peer)> {
     if is_unix(listener) {
         return Ok((paths::accept(listener)?, Peer::Unix));

@@ -1,11 +1,12 @@
-//! How a connection is asked for.
+//! The way in which a connection is asked for.
 
 ghost use Rattle.std.specs.Prelude.{◌≡◌, None, option_map};
 ghost use Rattle.tn_net.specs.network.Dialing.{family_of, is_of, suits};
 
 use std::net::{IpAddr, SocketAddr};
 
-/// For how many seconds an address is waited for at most if no time is given and another address is left.
+/// The most seconds for which an address is waited for if no time is given and another address is
+/// left.
 const NEXT_AFTER: u32 = 2;
 
 /// A family of addresses.
@@ -26,15 +27,15 @@ impl Family {
     }
 }
 
-/// How a connection is asked for.
+/// The options by which a connection is asked for.
 #[derive(Clone, Copy, Debug, PartialEq, Eq)]
 pub struct Dialing {
     /// The one family whose addresses are tried; if none is named, both are.
     pub family: Option<Family>,
     /// The address of this machine that the connection comes from; if none is named, the system chooses it.
     pub source: Option<IpAddr>,
-    /// For how many seconds each address is waited for. At 0 that is 2 seconds (`NEXT_AFTER`), and for the
-    /// last address as long as the system waits.
+    /// The most seconds for which each address is waited for. At 0 it is 2 seconds (`NEXT_AFTER`),
+    /// and for the last address as long as the system waits.
     pub seconds: u32,
 }
 
@@ -52,7 +53,8 @@ impl Dialing {
         }
     }
 
-    /// Whether this address is tried: its family is the one that was asked for, and that of the source.
+    /// Returns whether this address is tried: its family is the one that was asked for, and that of
+    /// the source.
     pub(crate) fn suits(&self, address: &SocketAddr) -> bool
         ensures { result ≡ suits self.now address.now }
     {
@@ -68,7 +70,8 @@ impl Dialing {
         }
     }
 
-    /// For how many seconds an address is waited for, if this many are left after it.
+    /// Returns the number of seconds for which an address is waited for, if this many addresses are
+    /// left after it.
     pub(crate) fn seconds_for(&self, left: usize) -> u32 {
         if self.seconds > 0 {
             return self.seconds;
@@ -77,7 +80,7 @@ impl Dialing {
     }
 }
 
-// Whether an address is of a family, if one is named.
+// Returns whether an address is of a family, if one is named.
 fn is_of(family: Option<Family>, address: &SocketAddr) -> bool
     ensures { result ≡ is_of family address.now }
 {

@@ -7,16 +7,17 @@ use std::io;
 use std::net::{TcpListener, TcpStream};
 use std::os::fd::{IntoRawFd, OwnedFd};
 
-/// One more handle of the socket at this descriptor. It listens, or it is a connection, which `connection_of`
-/// gives. The descriptor stays open, as whoever started this process left it.
+/// Returns one more handle of the socket at this descriptor. It listens, or it is a connection,
+/// which `connection_of` gives. The descriptor stays open, as the starter of this process left it.
 ///
 /// # Errors
 ///
-/// There is no socket of IPv4, IPv6 or the Unix domain there.
+/// - There is no socket of IPv4, IPv6 or the Unix domain at the descriptor.
 pub(crate) fn listener_at(descriptor: u16) -> io::Result<TcpListener> {
     let lent = at(descriptor);
     let ours = own(&lent);
-    // It was only lent, and closing it could close what somebody else opened there since.
+    // The descriptor was only lent, and closing it could close another that was opened in its place
+    // since.
     let _ = lent.into_raw_fd();
     ours
 }
@@ -35,7 +36,7 @@ fn own(lent: &TcpListener) -> io::Result<TcpListener> {
     Ok(ours)
 }
 
-/// The connection that a socket is, if it listens to none, and whom it is with.
+/// Returns the connection that a socket is, if it listens to none, and its other end.
 pub(crate) fn connection_of(listener: &TcpListener) -> io::Result<(TcpStream, Peer)> {
     let stream = TcpStream::from(OwnedFd::from(listener.try_clone()?));
     let peer = peer_of(&stream)?;

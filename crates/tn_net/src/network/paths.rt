@@ -15,38 +15,39 @@ use std::os::fd::{AsRawFd, RawFd};
 use std::os::unix::fs::{FileTypeExt, PermissionsExt};
 use std::{fmt, fs, io, str};
 
-/// Where the path begins in an address, after its family, and how many bytes it has at most (unix(7)).
+/// The place at which the path begins in an address, after its family, and the most bytes that it
+/// has (unix(7)).
 const PATH_AT: usize = 2;
 
 const MOST_PATH: usize = 107;
 
-/// Only its owner connects to a listener.
+/// The mode of a socket's file: only its owner connects to it.
 const PRIVATE: u32 = 0o600;
 
-/// As many connections may wait for the listener as the system allows.
+/// The number of connections that may wait for the listener: as many as the system allows.
 const BACKLOG: i32 = -1;
 
-/// How often a connection is asked for while others wait for the listener, and how many milliseconds lie
-/// between.
+/// The number of attempts for a connection while others wait for the listener, and the number of
+/// milliseconds between them.
 const TRIES: u8 = 10;
 
 const BETWEEN: i32 = 100;
 
-/// Whether a host names a socket of the Unix domain: `unix:` and its path.
+/// Returns whether a host names a socket of the Unix domain: `unix:` and its path.
 pub fn names_path(host: &str) -> bool
     ensures { result ≡ names_path host.now }
 {
     host.starts_with("unix:")
 }
 
-/// Listens at the path of such a name, in a new file with the mode 0600. A socket there that nobody serves is
-/// replaced.
+/// Listens at the path of such a name, in a new file with the mode 0600. A socket at that path that
+/// no process serves is replaced.
 ///
 /// # Errors
 ///
-/// - `AddrInUse`: the socket there is served, or it is no socket.
+/// - `AddrInUse`: the socket at that path is served, or it is no socket.
 /// - `InvalidInput`: the name has no path, or one of more than 107 bytes.
-/// - What the system says.
+/// - Any other error is the system's.
 pub(crate) fn listen_at<H: Files<File = File>>(rt: &H, name: &str) -> io::Result<TcpListener> {
     let path = path_in(name)?;
     let address = raw_of(path)?;
@@ -65,14 +66,14 @@ pub(crate) fn listen_at<H: Files<File = File>>(rt: &H, name: &str) -> io::Result
     Ok(listener)
 }
 
-// Nobody connects to a listener before it listens, and then only its owner.
+// Opens a socket at the path. No process connects to it before it listens, and then only its owner.
 fn open<H: Files<File = File>>(rt: &H, path: &str, listener: &TcpListener) -> io::Result<()> {
     fs::set_permissions(rt, path, Permissions::from_mode(PRIVATE))?;
     check(c::listen(listener.as_raw_fd(), BACKLOG))
 }
 
-/// A connection to the path of such a name. While others wait for the listener it is asked for again, for a
-/// second at most.
+/// Connects to the path of such a name. While others wait for the listener it asks again, for at
+/// most a second.
 pub(crate) fn join(name: &str) -> io::Result<TcpStream> {
     let address = raw_of(path_in(name)?)?;
     for _ in 0..TRIES {
@@ -85,7 +86,7 @@ pub(crate) fn join(name: &str) -> io::Result<TcpStream> {
     Err(io::Error::from(ErrorKind::TimedOut))
 }
 
-/// The connection that waits at a listener of the Unix domain.
+/// Returns the connection that waits at a listener of the Unix domain.
 pub(crate) fn accept(listener: &TcpListener) -> io::Result<TcpStream> {
     let mut bytes = [0; c::_SS_SIZE];
     let mut length = c::_SS_SIZE as u32;
@@ -101,11 +102,11 @@ pub(crate) fn accept(listener: &TcpListener) -> io::Result<TcpStream> {
     if stream < 0 {
         return Err(last_error());
     }
-    // The descriptor is new, and nobody else has its number.
+    // The descriptor is new, and no other owner has its number.
     Ok(unsafe { TcpStream::from_raw_fd(stream) })
 }
 
-/// Whether a socket is of the Unix domain.
+/// Returns whether a socket is of the Unix domain.
 pub(crate) fn is_unix<S: AsRawFd>(socket: &S) -> bool {
     match own_address(socket.as_raw_fd()) {
         Ok(address) => family_of(&address) == c::AF_UNIX,
@@ -146,7 +147,7 @@ fn path_in(name: &str) -> io::Result<&str> {
     }
 }
 
-// The bytes of C's `sockaddr_un`: the family, the path and a zero.
+// Returns the bytes of C's `sockaddr_un`: the family, the path and a zero.
 fn raw_of(path: &str) -> io::Result<RawAddress>
     ensures { IfOk result (λ address. address.length ≤ 128) }
 {
@@ -164,7 +165,7 @@ fn raw_of(path: &str) -> io::Result<RawAddress>
 fn own_address(descriptor: RawFd) -> io::Result<RawAddress> {
     let mut bytes = [0; c::_SS_SIZE];
     let mut length = c::_SS_SIZE as u32;
-    // Whoever asks is lent the owner of the descriptor, so that it is open.
+    // The caller is lent the owner of the descriptor, so that it is open.
     check(unsafe { c::getsockname(descriptor, &mut bytes, &mut length) })?;
     Ok(RawAddress { bytes, length })
 }
@@ -173,7 +174,7 @@ fn family_of(address: &RawAddress) -> i32 {
     i32::from(u16::from_ne_bytes([address.bytes[0], address.bytes[1]]))
 }
 
-// The path of an address of the Unix domain, if it has one that is text.
+// Returns the path of an address of the Unix domain, if it has one that is text.
 fn path_of(address: &RawAddress) -> Option<&str> {
     if family_of(address) != c::AF_UNIX {
         return None;
@@ -193,7 +194,7 @@ fn new_listener() -> io::Result<TcpListener> {
     if socket < 0 {
         return Err(last_error());
     }
-    // The descriptor is new, and nobody else has its number.
+    // The descriptor is new, and no other owner has its number.
     Ok(unsafe { TcpListener::from_raw_fd(socket) })
 }
 
@@ -215,14 +216,14 @@ fn connect(address: &RawAddress) -> io::Result<TcpStream>
     if socket < 0 {
         return Err(last_error());
     }
-    // The descriptor is new, and nobody else has its number.
+    // The descriptor is new, and no other owner has its number.
     let stream = unsafe { TcpStream::from_raw_fd(socket) };
     check(unsafe { c::connect(stream.as_raw_fd(), &bytes, length) })?;
     stream.set_nonblocking(false)?;
     Ok(stream)
 }
 
-// Whether a socket is there that nobody serves.
+// Returns whether a socket is at the path that no process serves.
 fn is_left<H: Files<File = File>>(rt: &H, path: &str, address: &RawAddress) -> bool
     requires { address.now.length ≤ 128 }
 {

@@ -1,10 +1,10 @@
-//! Who is at the other end of a connection.
+//! The other end of a connection.
 
 use std::fmt;
 use std::fmt::Display;
 use std::net::SocketAddr;
 
-/// Who is at the other end of a connection that was accepted.
+/// The other end of a connection that was accepted.
 #[derive(Clone, Copy)]
 pub enum Peer {
     /// The address and the port that the connection comes from.

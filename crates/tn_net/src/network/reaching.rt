@@ -10,12 +10,12 @@ use std::io;
 use std::io::{ErrorKind, Write};
 use std::net::{HostAddrs, IpAddr, SocketAddr, TcpStream};
 
-/// Who hears of each address before a connection to it is asked for.
+/// A receiver of each address before a connection to it is asked for.
 pub trait Trying {
     fn try_address(&mut self, address: &SocketAddr);
 }
 
-/// Nobody hears of it.
+/// A receiver that does nothing with the addresses.
 #[derive(Drop)]
 pub struct Unheard;
 
@@ -23,7 +23,12 @@ impl Trying for Unheard {
     fn try_address(&mut self, _address: &SocketAddr) {}
 }
 
-/// Connects to a host by any of its addresses: what `reach_by` does with `Dialing::within`.
+/// Connects to a host by any of its addresses, each of which is waited for at most this number of
+/// seconds: it is `reach_by` with `Dialing::within`.
+///
+/// # Errors
+///
+/// - The error of the last address, or of the look-up; `causes` gets a line for each address.
 pub fn reach<N: Network, T: Trying>(
     net: &N,
     host: &str,
@@ -38,8 +43,13 @@ pub fn reach<N: Network, T: Trying>(
     reach_by(net, host, port, Dialing::within(seconds), trying, causes)
 }
 
-/// Connects to a service: to the socket that `host` names by `unix:` and a path, or by any of the addresses of
-/// `host`, each of which is waited for so many seconds. If that cannot be, `causes` gets a line for each.
+/// Connects to a service: to the socket that `host` names by `unix:` and a path, or by any of the
+/// addresses of `host`, each of which is waited for at most this number of seconds.
+///
+/// # Errors
+///
+/// - The error of the socket, of the last address, or of the look-up; `causes` gets a line for
+///   each.
 pub fn reach_service<N: Network>(
     net: &N,
     host: &str,
@@ -65,8 +75,12 @@ fn note_unjoined(causes: &mut Vec<u8>, name: &str, joined: &io::Result<TcpStream
     }
 }
 
-/// Connects to a host, an address or a name: of its addresses that are asked for, to the first that takes a
-/// connection. Each is waited for as long as `dialing` says. If none does, `causes` gets a line for each.
+/// Connects to a host, an address or a name: of its addresses that are asked for, to the first that
+/// takes a connection. Each is waited for as long as `dialing` says.
+///
+/// # Errors
+///
+/// - The error of the last address, or of the look-up; `causes` gets a line for each address.
 pub fn reach_by<N: Network, T: Trying>(
     net: &N,
     host: &str,
@@ -114,7 +128,7 @@ pub fn reach_by<N: Network, T: Trying>(
     Err(last)
 }
 
-// How many of these addresses are tried.
+// Returns the number of these addresses that are tried.
 fn count_suited(dialing: &Dialing, addresses: &HostAddrs) -> usize {
     let Ok(addresses) = addresses.clone() else {
         return 0;

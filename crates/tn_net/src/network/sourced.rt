@@ -46,7 +46,7 @@ fn new_socket(address: &SocketAddr) -> io::Result<TcpStream> {
     if socket < 0 {
         return Err(last_error());
     }
-    // The descriptor is new, and nobody else has its number.
+    // The descriptor is new, and no other owner has its number.
     Ok(unsafe { TcpStream::from_raw_fd(socket) })
 }
 
@@ -103,7 +103,7 @@ pub(crate) fn last_error() -> io::Error {
     io::Error::from_raw_os_error(os::errno())
 }
 
-// The bytes of C's `sockaddr_in` or `sockaddr_in6`.
+// Returns the bytes of C's `sockaddr_in` or `sockaddr_in6`.
 fn raw_of(address: &SocketAddr) -> RawAddress
     ensures { result.length ≤ 128 }
 {

@@ -1,4 +1,4 @@
-//! Laws of what is printed, over the definitions alone.
+//! Laws of the printed lines, only over the definitions.
 
 ghost use Rattle.std.specs.Prelude.{◌≡◌, ◌<◌, List, [], ◌++◌, length, map};
 ghost use Rattle.tn_nvt.specs.declared.items.Item.{Item, TheVariants.Byte};
@@ -16,7 +16,7 @@ pub fn one_state()
         Takes old items new → Takes old items other → new ≡ other }
 {}
 
-/// What a new printer has taken is its text, and the data that it holds.
+/// The items that a new printer has taken are its text, and the data that it holds.
 pub fn all_is_printed()
     ensures { (old new : Printing) (items : List Item) → old.text ≡ [] → old.held ≡ [] →
         Takes old items new →

@@ -36,7 +36,7 @@ pub(crate) fn name_of_command(command: Command) -> &'static [u8]
     }
 }
 
-/// No bytes for an option that has no name here.
+/// Returns the name of an option, or no bytes if it has none in this table.
 #[tactic(auto, unfolding(crate::specs::printing::Names::option_name))]
 pub(crate) fn name_of_option(option: u8) -> &'static [u8]
     ensures { result.now ≡ option_name option }
@@ -96,7 +96,7 @@ pub(crate) fn name_of_option(option: u8) -> &'static [u8]
     }
 }
 
-/// No bytes for a function that has no name.
+/// Returns the name of a function, or no bytes if it has none.
 #[tactic(auto, unfolding(crate::specs::printing::Names::func_name))]
 pub(crate) fn name_of_func(func: u8) -> &'static [u8]
     ensures { result.now ≡ func_name func }
@@ -136,7 +136,7 @@ pub(crate) fn name_of_func(func: u8) -> &'static [u8]
     }
 }
 
-/// Of the two low bits of a modifier.
+/// Returns the name of the level in the two low bits of a modifier.
 pub(crate) fn name_of_level(level: u8) -> &'static [u8]
     ensures { result.now ≡ level_name level }
 {

@@ -1,4 +1,4 @@
-//! Appends what the parameters of a subnegotiation say.
+//! Appends the meaning of a subnegotiation's parameters.
 
 ghost use Rattle.std.specs.Prelude.{◌≡◌, ◌++◌, OnOk, None, codes, decimal, flat_map};
 ghost use Rattle.tn_codes.specs.PayloadOf.{payload_of};
@@ -26,7 +26,7 @@ const FLUSH_OUT: u8 = 32;
 
 const FLUSH_IN: u8 = 64;
 
-/// Appends what these parameters say, or else their digits, each behind a space.
+/// Appends the meaning of these parameters, or else their digits, each after a space.
 pub(crate) fn push_parameters(
     alloc: Global,
     option: u8,

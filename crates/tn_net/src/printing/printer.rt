@@ -17,7 +17,7 @@ use tn_nvt::{Item, Refused, Sink};
 /// The most data of a line, in bytes.
 const MAX_DATA: usize = 64;
 
-/// What stands before each line.
+/// The text before each line.
 #[derive(Clone, Copy, PartialEq, Eq)]
 pub enum Prefix {
     Empty,
@@ -62,7 +62,7 @@ impl Model for Lines {
 }
 
 impl Lines {
-    /// No lines, which take no memory. Each will have this prefix.
+    /// Makes a printer with no lines, which takes no memory. Each line will have this prefix.
     pub fn new(alloc: Global, prefix: Prefix) -> Lines
         ensures prefix { result.prefix ≡ prefix }
         ensures text { result.text ≡ [] }
@@ -77,14 +77,14 @@ impl Lines {
         }
     }
 
-    /// The lines that are complete, each with its line feed.
+    /// Returns the lines that are complete, each with its line feed.
     pub fn text(&self) -> &[u8]
         ensures { result.now ≡ self.now.text }
     {
         self.text.as_slice()
     }
 
-    /// The lines that are complete, with no copy. None of them are left.
+    /// Takes the lines that are complete, with no copy. None of them are left.
     pub fn take_text(&mut self) -> Vec<u8>
         ensures taken { result.items ≡ self.old.text }
         ensures left { self.new ≡ record self.old { text = [] } }
@@ -93,6 +93,10 @@ impl Lines {
     }
 
     /// Ends the line of data that waits for more, if there is one.
+    ///
+    /// # Errors
+    ///
+    /// - `AllocError`: there is no memory for the line; nothing has changed.
     pub fn end_data(&mut self) -> Result<(), AllocError>
         ensures ok { OnOk result (EndsData self.old self.new) }
         ensures err { OnErr result (self.new ≡ self.old) }

@@ -16,7 +16,7 @@ pub(crate) fn push_decimal(number: u16, out: &mut Vec<u8>) -> Result<(), AllocEr
     out.extend_from_slice(buffer.format(number).as_bytes())
 }
 
-/// Appends the name, or the number where there is none.
+/// Appends the name, or the number if there is none.
 pub(crate) fn push_named(name: &[u8], number: u8, out: &mut Vec<u8>) -> Result<(), AllocError>
     ensures { OnOk result (out.new.items ≡ out.old.items ++ name_or_number name.now number) }
 {
@@ -26,7 +26,7 @@ pub(crate) fn push_named(name: &[u8], number: u8, out: &mut Vec<u8>) -> Result<(
     out.extend_from_slice(name)
 }
 
-/// Appends the word where this bit is set.
+/// Appends the word if this bit is set.
 pub(crate) fn push_bit(bits: u8, bit: u8, word: &[u8], out: &mut Vec<u8>) -> Result<(), AllocError>
     ensures { OnOk result (out.new.items ≡ out.old.items ++ bit_word bits bit word.now) }
 {
@@ -36,7 +36,7 @@ pub(crate) fn push_bit(bits: u8, bit: u8, word: &[u8], out: &mut Vec<u8>) -> Res
     out.extend_from_slice(word)
 }
 
-/// A byte as two digits.
+/// Returns a byte as two digits.
 pub(crate) fn hex_digits(byte: u8) -> [u8; 2]
     ensures { result ≡ encode_lower (byte ∷ []) }
 {

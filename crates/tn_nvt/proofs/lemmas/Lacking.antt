@@ -1,4 +1,4 @@
--- What does not fit is something.
+-- A spelling that does not fit is not empty.
 use Rattle.std.proofs.Common.{◌≢◌, ℕ, List, [], length, Vec, subst, arith}
 use Rattle.tn_nvt.specs.{Room.LacksRoom, Spelling.spells, declared.items.Item.Item}
 

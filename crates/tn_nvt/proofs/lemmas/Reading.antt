@@ -65,18 +65,18 @@ pub one_spelling : (a b : Item) (x y : List ℕ) → Fits a → Fits b → spell
     → (a ≡ b) × (x ≡ y)
 one_spelling = unique.one_spelling
 
--- what is written at the front of a stream is read before it
+-- an item that is written at the front of a stream is read before it
 pub read_again : (item : Item) (items : List Item) (stream rest : List ℕ) → Fits item
     → Reading stream items rest
     → Reading (spelling item ++ stream) (item ∷ items) rest
 read_again = unique.read_again
 
--- what is written at the end of whole items is read after them
+-- an item that is written at the end of whole items is read after them
 pub reads_written : (item : Item) (items : List Item) (stream : List ℕ) → Fits item → Reading stream items []
     → Reading (stream ++ spelling item) (items ++ item ∷ []) []
 reads_written = unique.reads_written
 
--- the same of a list
+-- a list of items that was written is read again
 pub all_read_again : (items more : List Item) (stream rest : List ℕ) → All Fits items
     → Reading stream more rest
     → Reading (spells items ++ stream) (items ++ more) rest
@@ -96,11 +96,11 @@ reads_all_written (item ∷ items) had stream fit r =
     (reads_all_written items (had ++ item ∷ []) (stream ++ spelling item) (All-tail Fits item items fit)
     (reads_written item had stream (All-head Fits item items fit) r)))
 
--- what is written of items is read as these
+-- the spelling of items is read as these
 pub reads_spelled : (items : List Item) → All Fits items → Reading (spells items) items []
 reads_spelled items fit = reads_all_written items [] [] fit reads_none
 
--- and tells them
+-- a text determines its items
 pub one_text : (items others : List Item) → All Fits items → All Fits others
     → spells items ≡ spells others → items ≡ others
 one_text items others fit fits same =
@@ -108,9 +108,8 @@ one_text items others fit fits same =
 
 -- WHAT IS DELIVERED
 
--- Whole items fly after what a decoder has read, and a piece is cut from their front: what it adds is a
--- front of them, and
--- what is left flies after the longer stream.
+-- Whole items fly after the bytes that a decoder has read, and a piece is cut from their front: the items
+-- that it adds are a front of them, and the rest flies after the longer stream.
 pub record Delivers (new : DecoderState) (stream piece later : List ℕ) (had got items : List Item) : Type 0 where
   pub left : List Item
   pub all : items ≡ got ++ left

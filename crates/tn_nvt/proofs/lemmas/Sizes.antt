@@ -1,4 +1,4 @@
--- How long spellings are, and how much the items of a stream weigh at most.
+-- The length of spellings, and how much the items of a stream weigh at most.
 use Rattle.std.proofs.{Common.{◌≡◌, ◌≢◌, ℕ, ◌+◌, ◌*◌, ◌≤◌, List, [], ◌∷◌, ◌++◌, length, refl, ◌∙◌, ap, arith, length-append, inl, inr}, lemmas.Bool.ne_eqb}
 use Rattle.std.proofs.lemmas.Bool.Decides.{eqb_tells}
 use Rattle.std.specs.Prelude.{flat_map}
@@ -23,7 +23,7 @@ doubled_some b =
       | inr e ↦ let differs : b ≢ 255 = e.1 in rw (ne_eqb b 255 differs) (omega arith)
     ]
 
--- and in one where it is no IAC
+-- a byte that is no IAC is one byte in its spelling
 pub doubled_alone : (b : ℕ) → b ≢ 255 → length (doubled_byte b) ≡ 1
 doubled_alone b differs = rw (ne_eqb b 255 differs) refl
 
@@ -50,7 +50,8 @@ abbrev pub total : (Item → ℕ) → List Item → ℕ
 total w [] = 0
 total w (item ∷ items) = w item + total w items
 
--- an item weighs at most so much for each byte of a stream that it is read of; a CR alone may be read of one byte
+-- an item weighs at most `c` for each byte of the stream from which it is read; a CR may be read from only
+-- one byte
 pub record IsWeight (w : Item → ℕ) (c : ℕ) : Type 0 where
   pub spelled : (item : Item) → Fits item → w item ≤ c * length (spelling item)
   pub alone : w (Byte cr) ≤ c

@@ -1,4 +1,4 @@
--- Two ends and the words between them, from their beginning, step by step.
+-- Two ends and the messages between them, from their beginning, step by step.
 use Rattle.std.proofs.Common.{◌≡◌, ℕ, Some, List, [], ◌∷◌, ◌++◌, refl, ◌∙◌, ap, subst}
 use Rattle.tn_option.specs.EnginePair.{EnginePair, EngineStep, engine_step, engine_steps, Talk, step_of, talk_steps, TalkTo, pair_of, LeadTo, EnginesAgree}
 use Rattle.tn_option.specs.{Options.known_option, declared.{known.Known.Known, negotiation.Agree.Agree, q_method.Side.Side}}
@@ -28,7 +28,7 @@ pub steps-LeadTo : (a b : Agree) (list : List EngineStep) (e : EnginePair) → L
     → LeadTo a b (engine_steps list e)
 steps-LeadTo a b list e p = record { list = p.list ++ list; is = engine_steps-more p.list list (pair_of a b) ∙ ap (engine_steps list) p.is }
 
--- where no word about an option is on its way, they agree on it
+-- if no message about an option is on its way, they agree on it
 pub LeadTo-agree : (a b : Agree) (e : EnginePair) (side : Side) (code : ℕ) (option : Known)
     → known_option code ≡ Some option → LeadTo a b e
     → EnginesAgree e side code

@@ -1,4 +1,4 @@
--- What a word or a wish leaves as it was.
+-- The parts of the options that a message or a request leaves as they were.
 use Rattle.std.proofs.Common.{ℕ, Bool}
 use Rattle.tn_codes.specs.declared.codes.Verb.{Verb}
 use Rattle.tn_option.specs.{QMethod.{side_of, cause_of, wish_for}, Options.{Options, known_option, options_after_cause, options_after_word, options_after_wish}}

@@ -23,7 +23,7 @@ fails : (b : Bool) → (b ≡ true → ⊥) → b ≡ false
 fails true not = absurd (not refl)
 fails false not = refl
 
--- a character that isn't found is not set to the byte
+-- a character that is not found is not set to the byte
 unset : (o : Option ℕ) (byte : ℕ) → (byte == unwrap_or o 10) ≡ false → is_set_to o byte ≡ false
 unset None byte e = refl
 unset (Some character) byte e = grind arith

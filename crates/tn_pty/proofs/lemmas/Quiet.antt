@@ -56,7 +56,7 @@ module _ (input : Input) where
       (ap (λ gain. old.entries ++ gain) (quiet_gain old.line r quiet) ∙ append-nil old.entries)
       (ap (queue_with old.queue) (hidden input old.settings byte old.line off quiet) ∙ queue_still old.queue)
 
-  -- such bytes change the line alone
+  -- such bytes change only the line
   pub after_hidden : (bytes : List ℕ) (old : Terminal) → Hides input old.settings → AreQuiet input old.settings bytes
       → after_all input old bytes ≡ record old { line = line_after_all old.line (map (role_of_input input old.settings) bytes) }
   after_hidden [] old off quiet = refl
@@ -65,7 +65,7 @@ module _ (input : Input) where
       ap (λ (t : Terminal). after_all input t bytes) (hidden_one old byte off (quiet_first old.settings byte bytes quiet))
       ∙ after_hidden bytes mid off (quiet_rest old.settings byte bytes quiet)
 
-  -- and each of them is accepted
+  -- each of the quiet bytes is accepted
   pub accepts_quiet : (old : Terminal) (bytes : List ℕ) → old.closed ≡ false → AreQuiet input old.settings bytes → AcceptsAll input old bytes
   accepts_quiet old [] takes quiet = tt
   accepts_quiet old (byte ∷ bytes) takes quiet = (

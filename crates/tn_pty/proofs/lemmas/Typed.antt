@@ -66,7 +66,7 @@ input_advances (Keys echo) settings keys line = keys_advance settings keys line
 input_advances Edited settings bytes line = literals_advance settings.chars bytes line
 
 module _ (input : Input) where
-  -- what bytes do is what the whole lists of keys say
+  -- the effect of bytes is the one that the whole lists of keys give
   pub run_advance : (old new : Terminal) (bytes : List ℕ) → new ≡ after_all input old bytes
       → Advances old.line (roles_given input old.settings bytes) (input_gains input old bytes) new.line
   run_advance old new bytes is =
@@ -74,7 +74,7 @@ module _ (input : Input) where
       (sym (ap (λ (t : Terminal). t.line) is ∙ input-line input old bytes))
       (input_advances input old.settings bytes old.line)
 
-  -- the same of a call that may have been refused
+  -- a call that may have been refused advances so, if it is Ok
   pub run_advance_or : {T E : Type 0} (r : Result T E) (old new : Terminal) (bytes : List ℕ) → OnOk r (new ≡ after_all input old bytes)
       → OnOk r (Advances old.line (roles_given input old.settings bytes) (input_gains input old bytes) new.line)
   run_advance_or (Ok x) old new bytes is = run_advance old new bytes is
@@ -85,7 +85,7 @@ module _ (input : Input) where
   run_entries_or (Ok x) old new bytes is = ap (λ (t : Terminal). t.entries) is ∙ input-entries input old bytes
   run_entries_or (Err e) old new bytes is = tt
 
--- what is left of the bytes
+-- the rest of the bytes
 pub left_of : (i : ℕ) (bytes : List ℕ) → take (length bytes - i) (drop i bytes) ≡ drop i bytes
 left_of i bytes = take_all (length bytes - i) (drop i bytes) (omega (arith, length-drop i bytes))
 
@@ -107,7 +107,7 @@ module _ (input : Input) (old mid new : Terminal) (bytes : List ℕ) (i : ℕ) (
       subst (λ (t : Terminal). AcceptsAll input t (take n (drop i bytes))) before front in
       subst (AcceptsAll input old) (sym (take-add i n bytes)) (accepts-append input old (take i bytes) (take n (drop i bytes)) accepted there)
 
-  -- and then a byte of those that are left was refused
+  -- bytes that were taken, and then a byte of those that are left, which was refused
   pub stops_more : (fault : PtyFault) → StopsWithin input mid (take (length bytes - i) (drop i bytes)) fault new → StopsWithin input old bytes fault new
   stops_more fault stops =
       let settings : mid.settings ≡ old.settings = ap (λ (t : Terminal). t.settings) before ∙ input-settings input old (take i bytes) in
@@ -142,7 +142,7 @@ module _ (input : Input) (old mid new : Terminal) (bytes : List ℕ) (i : ℕ) (
       subst (λ (t : Terminal). Accepts t (role_of_input input t.settings byte)) before accepts in
       subst (AcceptsAll input old) (sym (take_more bytes i 0 within)) (accepts-append input old (take i bytes) (byte ∷ []) accepted (there, tt))
 
-  -- or it was refused
+  -- the next byte was refused
   pub stops_at : (fault : PtyFault) → i < length bytes → Refuses mid (role_of_input input mid.settings (get_or bytes i 0)) fault new
       → StopsWithin input old bytes fault new
   stops_at fault within refuses =
@@ -178,7 +178,7 @@ accepts_plain echo old (key ∷ keys) takes plain = (
   accepts_plain echo (after_byte (Keys echo) old key) keys takes (plain_rest old key keys plain),
 )
 
--- the queue after these symbols, where they are shown
+-- the queue after these symbols, if they are shown
 abbrev pub queue_shown : Bool → List Symbol → List Symbol → List Symbol
 queue_shown shown queue symbols = if shown then queue_with_each queue symbols else queue
 
@@ -258,7 +258,7 @@ typed_kept echo (key ∷ keys) old plain fits =
     ∙ typed_kept echo keys mid (plain_rest old key keys plain) (omega (arith, fits, length-append old.line.held (key ∷ [])))
     ∙ same_kept old _ _ _ _ (append_assoc old.line.held (key ∷ []) keys) (shown_more shown old.queue (Byte key) (map (λ b. Byte b) keys))
 
--- keys that don't
+-- keys that do not
 pub typed_dropped : (echo : Bool) (keys : List ℕ) (old : Terminal) → ArePlain old keys → (0 < length keys → line_length old.line ≡ max_counted old.line.limit)
     → after_all (Keys echo) old keys ≡ record old { queue = queue_shown (echo && old.settings.flags.echo) old.queue (map (λ b. Byte 7) keys) }
 typed_dropped echo [] old plain full =
@@ -278,7 +278,7 @@ typed_dropped echo (key ∷ keys) old plain full =
 plain_front : (old : Terminal) (keys : List ℕ) (n : ℕ) → ArePlain old keys → ArePlain old (take n keys)
 plain_front old keys n plain = All-take (IsPlain old.settings) n keys plain
 
--- keys of which the first fit and the others don't
+-- keys of which the first fit and the others do not
 pub typed_plain : (echo : Bool) (keys : List ℕ) (old : Terminal) (n : ℕ) → ArePlain old keys
     → n ≡ min (max_counted old.line.limit - line_length old.line) (length keys) → line_length old.line ≤ max_counted old.line.limit
     → let shown = echo && old.settings.flags.echo in
@@ -296,7 +296,7 @@ typed_plain echo keys old n plain is fits =
     ∙ ap (λ t. after_all (Keys echo) t (drop n keys)) (typed_kept echo (take n keys) old (plain_front old keys n plain) (omega (arith, is, front, fits)))
     ∙ typed_dropped echo (drop n keys) mid (All-drop (IsPlain old.settings) n keys plain) (λ some. omega (arith, is, front, whole, long, some, fits))
 
--- the same of a line and a queue that are known to be those
+-- a line and a queue that are known to be those after the keys
 pub typed_shown : (echo shown : Bool) (keys : List ℕ) (old : Terminal) (n : ℕ) (line : HalfLine) (queue : List Symbol) → ArePlain old keys
     → n ≡ min (max_counted old.line.limit - line_length old.line) (length keys) → line_length old.line < old.line.limit
     → line ≡ record (old.line) { held = old.line.held ++ take n keys } → (echo && old.settings.flags.echo) ≡ shown

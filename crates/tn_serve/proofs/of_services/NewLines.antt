@@ -1,9 +1,9 @@
--- What is shown of bytes that come in pieces.
+-- The text of bytes that come in pieces.
 use Rattle.std.proofs.Common.{◌≡◌, ℕ, ◌==◌, ◌&&◌, Bool, true, false, List, [], ◌∷◌, ◌++◌, refl, sym, ap, ap₂, ◌∙◌, append_assoc, ◌≤◌, length, arith}
 use Rattle.std.proofs.{Common.if◌then◌else◌, lemmas.Bool.eqb-true}
 use Rattle.tn_serve.specs.services.NewLines.{ends_by_return, new_lines, settled, shown_of, waiting}
 
--- by cases of one test
+-- one test decides by cases
 with_end : (c : Bool) (byte : ℕ) (s w n : List ℕ) → s ++ w ≡ n → (if c then s else byte ∷ s) ++ w ≡ (if c then n else byte ∷ n)
 with_end true byte s w n is = is
 with_end false byte s w n is = ap (λ (l : List ℕ). byte ∷ l) is
@@ -12,7 +12,7 @@ last_waits : (c : Bool) (byte : ℕ) → (byte == 13) ≡ c → (if c then [] el
 last_waits true byte is = ap (λ (n : ℕ). n ∷ []) (sym (eqb-true byte 13 is))
 last_waits false byte is = refl
 
--- what is shown at once, and what waits behind it, are all
+-- the bytes that are shown at once, and those that wait after them, are all
 pub all : (front : List ℕ) → settled front ++ waiting (ends_by_return front) ≡ new_lines front
 unfolding settled new_lines ends_by_return
 all [] = refl
@@ -32,7 +32,7 @@ unfolding settled
 behind_one true x byte bytes is = ap (λ (n : ℕ). if byte == 10 then settled (byte ∷ bytes) else n ∷ settled (byte ∷ bytes)) (eqb-true x 13 is)
 behind_one false x byte bytes is = refl
 
--- more bytes are shown as behind what waits
+-- more bytes are shown as after those that wait
 pub settled_more : (front : List ℕ) (byte : ℕ) (bytes : List ℕ)
     → settled (front ++ byte ∷ bytes) ≡ settled front ++ settled (waiting (ends_by_return front) ++ byte ∷ bytes)
 unfolding settled ends_by_return
@@ -62,7 +62,7 @@ settled_waiting false = refl
 apart : (front : List ℕ) → new_lines front ≡ settled front ++ new_lines (waiting (ends_by_return front))
 apart front = sym (all front) ∙ ap (λ (l : List ℕ). settled front ++ l) (sym (waits_alone (ends_by_return front)))
 
--- what came before is settled, but for what waits
+-- the bytes that came before are settled, but for those that wait
 pub settles : (front : List ℕ) (reads : List (List ℕ)) → shown_of front reads ≡ settled front ++ shown_of (waiting (ends_by_return front)) reads
 unfolding shown_of
 settles front [] = apart front

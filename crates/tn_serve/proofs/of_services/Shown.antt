@@ -1,4 +1,4 @@
--- What was shown, one step after another.
+-- The text that was shown, one step after another.
 use Rattle.std.proofs.Common.{◌≡◌, ◌≢◌, ◌⊎◌, inl, inr, ⊎_elim, ℕ, Bool, false, List, [], ◌∷◌, ◌++◌, length, Option, Some, None, Err, refl, sym, ap, ap₂, ◌∙◌}
 use Rattle.std.proofs.{Common.{subst, append_assoc, append-nil, arith}, lemmas.List.append_cancel_right}
 use Rattle.std.specs.{Io.KnownBytes.{Consumes, IsAtEnd}, IoError.error_kind, List.{FoldsTo, concat}, declared.io.Error.Error}
@@ -27,7 +27,7 @@ failed e None new kind call = tt
 failed e (Some old) None kind call = absurd call
 failed e (Some old) (Some new) kind call = let more = (call.1 kind).0 in omega (arith, more)
 
--- and so it was before reads that did not fail
+-- a read that fails after others that did not was to fail before them
 still_to_fail : (calls gave : ℕ) (old new : Option Failures) → HasCome calls gave old new → IsToFail new → IsToFail old
 still_to_fail calls gave None new come fails = tt
 still_to_fail calls gave (Some old) None come fails = absurd come
@@ -35,7 +35,7 @@ still_to_fail calls gave (Some old) (Some new) come fails = let same = come.0 in
 
 -- ONE STEP
 
--- what was given at a step that showed this
+-- the bytes that were given at a step that showed this
 pub record Gave (waited : Bool) (text : List ℕ) (waits : Bool) (old new : KnownReader) : Type 0 where
   pub given : List ℕ
   pub came : Consumes old.bytes new.bytes given
@@ -53,7 +53,7 @@ last_step waited text Done waits old new is shows = shows.why
 last_step waited text Stay waits old new is shows = absurd (let bad = is in cc)
 last_step waited text _ waits old new is shows = absurd shows
 
--- behind the last one nothing waits
+-- after the last one nothing waits
 last_waits : (waited : Bool) (text : List ℕ) (after : After) (waits : Bool) (old new : KnownReader) → after ≡ Done → Shows waited text after waits old new
     → waits ≡ false
 unfolding ends_by_return
@@ -61,14 +61,14 @@ last_waits waited text Done waits old new is shows = shows.shows.last
 last_waits waited text Stay waits old new is shows = absurd (let bad = is in cc)
 last_waits waited text _ waits old new is shows = absurd shows
 
--- what is to fail after a step that goes on was to fail before it
+-- a failure that is to come after a step that goes on was to come before it
 fails_before : (waited : Bool) (text : List ℕ) (after : After) (waits : Bool) (old new : KnownReader) → after ≡ Stay → Shows waited text after waits old new
     → IsToFail new.failures → IsToFail old.failures
 fails_before waited text Stay waits old new is shows fails = still_to_fail 1 (giving shows.given) old.failures new.failures shows.read fails
 fails_before waited text Done waits old new is shows fails = absurd (let bad = is in cc)
 fails_before waited text _ waits old new is shows fails = absurd shows
 
--- what a step that was given something showed is what is settled of it
+-- a step that was given something showed the settled part of it
 is_settled : (front given text : List ℕ) (waits : Bool) → text ++ waiting waits ≡ new_lines (front ++ given) → waits ≡ ends_by_return (front ++ given)
     → text ≡ settled (front ++ given)
 is_settled front given text waits shown holds =
@@ -98,7 +98,7 @@ ShowOn waited old [] waits new = (waits ≡ waited) × (new ≡ old)
 ShowOn waited old (r ∷ reactions) waits new =
     (held : Bool) × (between : KnownReader) × Shows waited r.text r.after held old between × ShowOn held between reactions waits new
 
--- what their reads gave
+-- the bytes that their reads gave
 pub record Came (waited : Bool) (old : KnownReader) (reactions : List Reaction) (waits : Bool) (new : KnownReader) : Type 0 where
   pub reads : List (List ℕ)
   pub each : length reads ≡ length reactions

@@ -1,4 +1,4 @@
--- What one step of the job in the background shows.
+-- The text that one step of the job in the background shows.
 use Rattle.std.proofs.Common.{◌≡◌, ◌≢◌, ◌⊎◌, inr, ℕ, ◌<◌, ◌≤◌, Bool, false, List, [], ◌∷◌, ◌++◌, Option, Some, None, Result, Ok, Err, length, take, refl, sym}
 use Rattle.std.proofs.Common.{ap, ap₂, ◌∙◌, subst, append-nil, arith, length-take-le}
 use Rattle.std.specs.{Io.KnownBytes.{Consumes, IsAtEnd, Keeps, ReadConsumes}, IoError.error_kind, declared.io.{Error.Error, ErrorKind.TheVariants.Interrupted}}
@@ -21,7 +21,7 @@ ends_behind : (front given : List ℕ) → 0 < length given → ends_by_return (
 ends_behind front [] some = absurd (omega (arith, some))
 ends_behind front (byte ∷ bytes) some = ends_more front byte bytes
 
--- what was given is shown behind what waited
+-- the bytes that were given are shown after those that waited
 given_shows : (waited : Bool) (given text : List ℕ) (waits : Bool) → 0 < length given → text ≡ settled (waiting waited ++ given)
     → waits ≡ ends_by_return (waiting waited ++ given)
     → ShowsGiven waited given text waits

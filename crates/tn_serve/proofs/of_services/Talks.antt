@@ -1,4 +1,4 @@
--- What went to the service, one entry after another.
+-- The bytes that went to the service, one entry after another.
 use Rattle.std.proofs.Common.{◌≡◌, ◌≢◌, ℕ, Bool, true, false, List, [], ◌∷◌, ◌++◌, Option, refl, sym, ◌∙◌, subst, map}
 use Rattle.std.specs.Io.KnownBytes.{Appends}
 use Rattle.tn_discipline.specs.declared.reads.{Entry.{Entry, TheVariants.{Text, Eof, Signal}}, Sig.TheVariants.{Int, Quit, Tstp}}
@@ -36,7 +36,7 @@ nothing_more a b c one two = record {
   calls = two.calls ∙ one.calls;
 }
 
--- where the way is not open
+-- if the way is not open
 goes_nowhere : (lines : LineFormat) (old : Way) (entry : Entry) (a b : KnownWriter) (way : Way) → old ≢ Open → Goes lines old entry (between a b) way
     → WritesNothing (between a b) × (way ≡ old)
 goes_nowhere lines Open entry a b way shut goes = absurd (shut refl)

@@ -1,4 +1,4 @@
--- As many ticks are made as are left.
+-- The number of ticks that are made is the number that are left.
 use Rattle.std.proofs.Common.{◌≡◌, ◌≤◌, ◌+◌, ℕ, zero, suc, List, [], ◌∷◌, ◌++◌, length, refl, sym, ap, ◌∙◌, append-nil, arith}
 use Rattle.tn_jobs.specs.declared.reactions.Reaction.{Reaction}
 use Rattle.tn_serve.specs.{services.Answering.{AreTicks, IsFresh, AreSteps, tick, ticks}, declared.services.answering.Answerer.Answerer}

@@ -7,7 +7,7 @@ abbrev pub foreground : Bool → ℕ
 foreground true = 1
 foreground false = 0
 
--- and one in the background where it ticks
+-- the number of jobs in the background: one if it ticks
 abbrev pub background : ℕ → ℕ
 background zero = 0
 background (suc ticks) = 1

@@ -1,4 +1,4 @@
--- What the job of a served session answers, and what the one in the background writes.
+-- The answers of the job of a served session, and the text of the one in the background.
 use Rattle.std.specs.Prelude.{◌≡◌, ◌-◌, ℕ, nat_le, zero, suc, IsTrue, Option, Some, List, [], ◌∷◌, codes}
 use Rattle.std.specs.{Prelude.if◌then◌else◌, Str.bytes_eq}
 use Rattle.tn_discipline.specs.declared.reads.{Sig.TheVariants.{Int, Quit, Tstp}, Entry.Entry}
@@ -7,6 +7,7 @@ use Rattle.tn_jobs.specs.declared.{reactions.Reaction.Reaction, verdicts.After.A
 use Rattle.tn_jobs.specs.declared.verdicts.After.TheVariants.{Stay, Done, Stop}
 use Rattle.tn_serve.specs.declared.services.answering.Answerer.{Answerer}
 
+-- a reaction with this text
 abbrev pub say : List ℕ → After → Reaction
 say text after = record { text = text; after = after }
 
@@ -14,6 +15,7 @@ say text after = record { text = text; after = after }
 abbrev pub answer_line : List ℕ → Reaction
 answer_line line = if bytes_eq line (codes "exit\n") then say (codes "bye\n") Done else say line Stay
 
+-- the job's answer to an entry
 abbrev pub answer : Entry → Reaction
 answer (Text line) = answer_line line
 answer Eof = say (codes "bye\n") Done
@@ -21,21 +23,21 @@ answer (Signal Int) = say (codes "int\n") Stay
 answer (Signal Quit) = say (codes "quit\n") Stay
 answer (Signal Tstp) = say (codes "tstp\n") Stop
 
--- Memory may run out for words of its own, which each tick has; a line comes back in the memory that it has.
+-- Memory may run out for a text of its own, which each tick has; a line comes back in the memory that it has.
 abbrev pub MayRefuse : Option Entry → Type 0
 MayRefuse (Some (Text line)) = IsTrue (bytes_eq line (codes "exit\n"))
 MayRefuse _ = Unit {0}
 
--- a tick, of which so many are left with it, and the last one ends the job
+-- a tick, of which this number is left with it, and the last one ends the job
 abbrev pub tick : ℕ → Reaction
 tick left = say (codes "tick\n") (if nat_le left 1 then Done else Stay)
 
--- A step of a job to which so many ticks are left: it writes one, and one less is left after it.
+-- A step of a job to which this number of ticks is left: it writes one, and one less is left after it.
 pub record Ticks (left : ℕ) (reaction : Reaction) (after : ℕ) : Type 0 where
   pub says : reaction ≡ tick left
   pub one_less : after ≡ left - 1
 
--- these steps, one after another, lead a job from so many ticks that are left to so many
+-- these steps, one after another, lead a job from this number of ticks that are left to that
 abbrev pub AreTicks : ℕ → List Reaction → ℕ → Type 0
 AreTicks left [] after = after ≡ left
 AreTicks left (reaction ∷ reactions) after =
@@ -55,7 +57,7 @@ AreSteps old [] new = new ≡ old
 AreSteps old (reaction ∷ reactions) new =
     (between : Answerer) × IsStep old reaction between × AreSteps between reactions new
 
--- all ticks of a job to which so many are left
+-- all ticks of a job to which this number is left
 abbrev pub ticks : ℕ → List Reaction
 ticks zero = []
 ticks (suc left) = tick (suc left) ∷ ticks left

@@ -1,10 +1,10 @@
--- Which lines may have been cut at the terminal's limit, and what comes of them.
+-- The lines that may have been truncated at the terminal's limit, and their effect.
 use Rattle.std.specs.Prelude.{ℕ, ◌+◌, ◌-◌, ◌==◌, ◌&&◌, nat_le, Bool, Option, Some, None, List, length}
 use Rattle.std.specs.Prelude.{slice_get, if◌then◌else◌}
 use Rattle.tn_serve.specs.declared.services.cutting.LineFormat.{LineFormat}
 
--- how many bytes a line that ends by this one has less than with a line feed: an end of file closes it with
--- none
+-- the number of bytes that a line which ends by this one lacks of those with a line feed: an end of file
+-- closes it with none
 abbrev pub missing : Option ℕ → ℕ
 missing None = 1
 missing (Some byte) = if byte == 10 then 0 else 1

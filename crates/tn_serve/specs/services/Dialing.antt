@@ -1,12 +1,13 @@
--- Which service a session is joined to.
+-- The service to which a session is joined.
 use Rattle.std.specs.Prelude.{◌≡◌, ℕ, List, codes, string_bytes}
 use Rattle.tn_serve.specs.declared.services.joint.Told.{Told}
 
--- what a user reads if the service was not reached, before the cause
+-- the text that a user reads if the service was not reached, before the cause
 abbrev pub unreached : List ℕ
 unreached = codes "the service cannot be reached"
 
--- what goes to the service at this host and port, which is dialled over this network for so many seconds
+-- the bytes that go to the service at this host and port, which is dialled over this network for this number
+-- of seconds
 pub record IsToldTo {H : Type 0} (network : H) (name : List ℕ) (number seconds : ℕ) (told : Told H) : Type 0 where
   pub rt : told.rt ≡ network
   pub host : string_bytes told.joint.value.host ≡ name

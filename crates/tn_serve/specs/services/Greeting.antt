@@ -1,4 +1,4 @@
--- Jobs whose user is greeted: those of a maker, and one in the background that says a text.
+-- Jobs whose user is greeted: those of a maker, and one in the background that shows a text.
 use Rattle.std.specs.Prelude.{◌≡◌, IsTrue, Option, Some, None, []}
 use Rattle.tn_discipline.specs.declared.reads.Entry.{Entry}
 use Rattle.tn_jobs.specs.declared.{reactions.Reaction.Reaction, verdicts.After.TheVariants.Done}
@@ -6,6 +6,7 @@ use Rattle.tn_serve.specs.{services.Sending.{say, silent}, declared.services.gre
 use Rattle.tn_serve.specs.declared.services.greeting.Greeting.{Greeting}
 use Rattle.tn_serve.specs.declared.services.greeting.Greeted.TheVariants as who
 
+-- the job has done nothing yet
 abbrev pub IsFresh : {J : Type 0} → (J → Type 0) → Greeted J → Type 0
 IsFresh fresh (who.Answers job) = fresh job
 IsFresh fresh (who.Greets text) = Unit {0}
@@ -17,7 +18,7 @@ Reacts reacts (who.Answers old) entry reaction (who.Answers new) = reacts old en
 Reacts reacts (who.Answers old) entry reaction (who.Greets text) = ⊥
 Reacts reacts (who.Greets text) entry reaction new = (reaction ≡ silent Done) × (new ≡ who.Greets text)
 
--- the one that greets says its text, and is done
+-- the one that greets shows its text, and is done
 abbrev pub Steps : {J : Type 0} → (J → Reaction → J → Type 0) → Greeted J → Reaction → Greeted J → Type 0
 Steps steps (who.Answers old) reaction (who.Answers new) = steps old reaction new
 Steps steps (who.Answers old) reaction (who.Greets text) = ⊥

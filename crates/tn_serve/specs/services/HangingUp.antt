@@ -1,4 +1,4 @@
--- When the end of a service ends the session that is joined to it.
+-- The end of a service, which ends the session that is joined to it.
 use Rattle.std.specs.Prelude.{◌≡◌, ◌≢◌, ℕ, Bool, true, Option, option_map, Result, Ok, Err}
 use Rattle.std.specs.{IoError.error_kind, declared.io.{Error.Error, ErrorKind.TheVariants.Interrupted}}
 
@@ -6,7 +6,7 @@ use Rattle.std.specs.{IoError.error_kind, declared.io.{Error.Error, ErrorKind.Th
 abbrev pub hung_up_on : Option Bool → Option Bool
 hung_up_on counted = option_map (λ _. true) counted
 
--- the service has said all, or the read failed
+-- the service has closed its side, or the read failed
 abbrev pub IsLast : Result ℕ Error → Type 0
 IsLast (Ok count) = count ≡ 0
 IsLast (Err error) = error_kind error ≢ Interrupted

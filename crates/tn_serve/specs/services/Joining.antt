@@ -9,36 +9,36 @@ use Rattle.tn_jobs.specs.declared.{reactions.Reaction.Reaction, verdicts.After.T
 use Rattle.tn_cores.specs.streams.{Foretelling.Failures, Known.known_reader, Telling.Calls}
 use Rattle.tn_cores.specs.declared.streams.window.WindowSize.{WindowSize}
 
--- how many jobs are to come of something that is there, or not
+-- the number of jobs to come of something that is there, or not
 abbrev pub count : {A : Type 0} → Option A → ℕ
 count None = 0
 count (Some x) = 1
 
--- how many jobs are to come where they are made over a connection: both, until that was tried
+-- the number of jobs to come if they are made over a connection: both, until that was tried
 abbrev pub left_to_make : {R W A : Type 0} → Option A → Option (Gateways R W) → ℕ
 left_to_make (Some hook) jobs = 2
 left_to_make None (Some jobs) = count jobs.writer + count jobs.reader
 left_to_make None None = 0
 
--- of so many jobs that are to come, which comes next: the one that shows is the last
+-- the next of this number of jobs to come: the one that shows is the last
 abbrev pub GivesSide : {R W : Type 0} → ℕ → Gateway R W → Type 0
 GivesSide left (side.Sends sending) = Unit {0}
 GivesSide left (side.Shows showing) = left ≡ 1
 
--- it has the reader or the writer that was there for it, and its lines go so
+-- the job has the reader or the writer that was there for it, and its lines go so
 abbrev pub GivesPart : {R W : Type 0} → Option R → Option W → LineFormat → Gateway R W → Type 0
 GivesPart reader writer lines (side.Sends sending) =
     (writer ≡ Some sending.writer) × (sending.lines ≡ lines)
 GivesPart reader writer lines (side.Shows showing) = reader ≡ Some showing.reader
 
--- where its connection was still to be made, such a writer is its, and its lines go so
+-- if its connection was still to be made, such a writer is its, and its lines go so
 abbrev pub GivesReached : {R W A : Type 0} → (W → Type 0) → LineFormat → Option A → Gateway R W → Type 0
 GivesReached reached lines (Some hook) (side.Sends sending) =
     reached sending.writer × (sending.lines ≡ lines)
 GivesReached reached lines (Some hook) (side.Shows showing) = Unit {0}
 GivesReached reached lines None job = Unit {0}
 
--- where the connection was still to be tried, the jobs are both of it, with such a writer if one is to come;
+-- if the connection was still to be tried, the jobs are both of it, with such a writer if one is to come;
 -- else they are as they were
 abbrev pub Connects : {R W A : Type 0} → (W → Type 0) → LineFormat → Option A → Option (Gateways R W)
     → Option (Gateways R W) → Type 0
@@ -47,6 +47,7 @@ Connects {R = R} {W = W} reached lines (Some hook) old new =
     × (made.lines ≡ lines) × IfSome made.writer reached
 Connects reached lines None old new = new ≡ old
 
+-- the job has done nothing yet
 abbrev pub IsFresh : {R W : Type 0} → Gateway R W → Type 0
 IsFresh (side.Sends sending) = sending.way ≡ Open
 IsFresh (side.Shows showing) = IsFalse showing.waits
@@ -60,7 +61,7 @@ Reacts contents told (side.Sends old) entry reaction (side.Shows new) = ⊥
 Reacts contents told (side.Shows old) entry reaction new =
     (reaction ≡ silent Stay) × (new ≡ side.Shows old)
 
--- memory may run out for a line, on its way to the service or as the word that none is sent any more; and for
+-- memory may run out for a line, on its way to the service or as the text that none is sent any more; and for
 -- what is shown, at a step
 abbrev pub MayRefuse : {R W : Type 0} → Gateway R W → Option Entry → Type 0
 MayRefuse (side.Sends sending) (Some entry) = WantsMemory sending entry

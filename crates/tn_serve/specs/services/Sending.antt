@@ -1,4 +1,5 @@
--- What the job in the foreground sends to the service at an entry, and what it tells the user.
+-- The bytes that the job in the foreground sends to the service at an entry, and the text that it shows the
+-- user.
 use Rattle.std.specs.Prelude.{◌≡◌, ◌≢◌, ℕ, Bool, true, false, if◌then◌else◌, Option, List, [], ◌∷◌, codes}
 use Rattle.std.specs.Io.KnownBytes.{Keeps}
 use Rattle.tn_discipline.specs.declared.reads.Entry.{Entry, TheVariants.{Text, Eof, Signal}}
@@ -12,9 +13,11 @@ use Rattle.tn_lines.specs.LineEnds.{line_said}
 use Rattle.tn_cores.specs.streams.{Writing.{Writes, Tells}, Known.{KnownWriting, known_writing}}
 use Rattle.tn_cores.specs.streams.Telling.{Calls}
 
+-- a reaction with this text
 abbrev pub say : List ℕ → After → Reaction
 say text after = record { text = text; after = after }
 
+-- a reaction without a text
 abbrev pub silent : After → Reaction
 silent after = say [] after
 
@@ -33,7 +36,7 @@ is_sent lines Broken = false
 abbrev pub kill_answer : Bool → Reaction
 kill_answer sent = silent (if sent then Stay else Done)
 
--- The user is told only that a line behind the end of file goes nowhere, and of one that ends the session.
+-- The user gets a text only if a line after the end of file goes nowhere, or a line ends the session.
 abbrev pub answer : LineFormat → Way → Entry → Reaction
 answer lines Open (Text line) = line_answer (is_ending lines line)
 answer lines Ended (Text line) = say (codes "closed\n") Stay
@@ -49,7 +52,7 @@ ended Open = Ended
 ended Ended = Ended
 ended Broken = Broken
 
--- and after a write, of which all went well or not
+-- the way after a write, of which all went well or not
 abbrev pub way_after : Bool → Way
 way_after true = Open
 way_after false = Broken
@@ -61,22 +64,23 @@ pub record WritesBytes (bytes : List ℕ) (writer : KnownWriting) (way : Way) : 
   pub tells : Tells whole writer.before.calls writer.after.calls
   pub leaves : way ≡ way_after whole
 
+-- Nothing was written.
 pub record WritesNothing (writer : KnownWriting) : Type 0 where
   pub bytes : Keeps writer.before.bytes writer.after.bytes
   pub calls : writer.after.calls ≡ writer.before.calls
 
--- what goes to the service of a line that ends the session or not, while the way is open
+-- the bytes that go to the service of a line that ends the session or not, while the way is open
 abbrev pub GoesLine : Bool → List ℕ → KnownWriting → Way → Type 0
 GoesLine true bytes writer new = WritesNothing writer × (new ≡ Ended)
 GoesLine false bytes writer new = WritesBytes bytes writer new
 
--- what goes to the service of a key that is sent or not, and how the way stands after it if not
+-- the bytes that go to the service of a key that is sent or not, and the state of the way after it if not
 abbrev pub GoesKey : Bool → ℕ → Way → KnownWriting → Way → Type 0
 GoesKey true byte way writer new = WritesBytes (byte ∷ []) writer new
 GoesKey false byte way writer new = WritesNothing writer × (new ≡ way)
 
--- what goes to the service at an entry, and how the way there stands before and after it: the keys are ^D,
--- ^C, ^\ and ^Z
+-- the bytes that go to the service at an entry, and the state of the way before and after it: the keys are
+-- ^D, ^C, ^\ and ^Z
 abbrev pub Goes : LineFormat → Way → Entry → KnownWriting → Way → Type 0
 Goes lines Open (Text line) writer new =
     GoesLine (is_ending lines line) (line_said lines.line_end line) writer new

@@ -1,11 +1,11 @@
--- What the job in the background shows at a step, of what the service says.
+-- The text that the job in the background shows at a step, of the service's bytes.
 use Rattle.std.specs.Prelude.{◌≡◌, ◌<◌, ◌≤◌, ◌⊎◌, ⊤, ℕ, Bool, Option, Some, None, List, [], ◌∷◌, ◌++◌, length}
 use Rattle.std.specs.Io.KnownBytes.{Consumes, IsAtEnd}
 use Rattle.tn_serve.specs.services.NewLines.{ends_by_return, new_lines, waiting}
 use Rattle.tn_jobs.specs.declared.verdicts.After.{After, TheVariants.{Stay, Done}}
 use Rattle.tn_cores.specs.streams.{Foretelling.{Failures, HasCome}, Known.KnownReader}
 
--- how many of the step's reads, which are one, gave a byte
+-- the number of the step's reads, which are one, that gave a byte
 abbrev pub giving : List ℕ → ℕ
 giving [] = 0
 giving (byte ∷ bytes) = 1
@@ -15,12 +15,13 @@ abbrev pub IsToFail : Option Failures → Type 0
 IsToFail None = ⊤
 IsToFail (Some failures) = 0 < failures.failing
 
--- Of what waited and of what was given this is shown, and a carriage return that ends what was given waits.
+-- This is shown of the bytes that waited and of those that were given, and a carriage return at their end
+-- waits.
 pub record ShowsGiven (waited : Bool) (given text : List ℕ) (waits : Bool) : Type 0 where
   pub shown : text ++ waiting waits ≡ new_lines (waiting waited ++ given)
   pub last : waits ≡ ends_by_return given
 
--- The next bytes are shown, or, where the read was interrupted, what waited; and the job goes on.
+-- The next bytes are shown, or, if the read was interrupted, those that waited; and the job goes on.
 pub record ShowsBytes (waited : Bool) (text : List ℕ) (waits : Bool) (old new : KnownReader) : Type 0 where
   pub given : List ℕ
   pub came : Consumes old.bytes new.bytes given
@@ -28,7 +29,7 @@ pub record ShowsBytes (waited : Bool) (text : List ℕ) (waits : Bool) (old new 
   pub read : HasCome 1 (giving given) old.failures new.failures
   pub shows : ShowsGiven waited given text waits
 
--- What waited is shown, and nothing any more: the service has said all, or the read failed.
+-- The bytes that waited are shown, and nothing any more: the service has closed its side, or the read failed.
 pub record ShowsNoMore (waited : Bool) (text : List ℕ) (waits : Bool) (old new : KnownReader) : Type 0 where
   pub left : Consumes old.bytes new.bytes []
   pub shows : ShowsGiven waited [] text waits

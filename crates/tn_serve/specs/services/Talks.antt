@@ -1,4 +1,4 @@
--- What went to the service in a whole talk, and what of its words was shown.
+-- The bytes that went to the service in a whole talk, and those of its own that were shown.
 use Rattle.std.specs.Prelude.{◌≡◌, ◌⊎◌, ℕ, Bool, true, false, IsFalse, Option, List, [], ◌∷◌, ◌++◌, length}
 use Rattle.std.specs.{Prelude.map, List.concat, Io.KnownBytes.{Consumes, IsAtEnd}}
 use Rattle.tn_discipline.specs.declared.reads.Entry.{Entry, TheVariants.{Text, Eof, Signal}}
@@ -14,7 +14,7 @@ use Rattle.tn_cores.specs.streams.{Writing.{Writes, Tells}, Foretelling.Failures
 use Rattle.tn_cores.specs.streams.Known.{KnownReader, KnownWriting, known_reader, known_writing}
 use Rattle.tn_cores.specs.declared.streams.window.WindowSize.{WindowSize}
 
--- a line, and what is due behind it; or nothing, where it ends the session
+-- a line, and what is due after it; or nothing, if it ends the session
 abbrev pub due_from : Bool → List ℕ → List ℕ → List ℕ
 due_from true bytes more = []
 due_from false bytes more = bytes ++ more
@@ -24,8 +24,8 @@ abbrev pub due_key : Bool → ℕ → List ℕ → List ℕ → List ℕ
 due_key true byte else_due more = byte ∷ more
 due_key false byte else_due more = else_due
 
--- what is due to the service: each line once, in order, up to the end of file, an interrupt or a quit, or to
--- a line that ends the session; but if signals are sent, these and a stop are keys
+-- the bytes that are due to the service: each line once, in order, up to the end of file, an interrupt or a
+-- quit, or to a line that ends the session; but if signals are sent, these and a stop are keys
 abbrev pub due : LineFormat → List Entry → List ℕ
 due lines [] = []
 due lines (Text line ∷ entries) =
@@ -46,13 +46,14 @@ pub record SendsAll (bytes : List ℕ) (writer : KnownWriting) (way : Way) : Typ
   pub wrote : Writes (goes_well way) writer.before.bytes writer.after.bytes bytes
   pub tells : Tells (goes_well way) writer.before.calls writer.after.calls
 
--- these entries with their answers led the job in the foreground here
+-- these entries with their answers led the job in the foreground to this state
 abbrev pub SendsTalk : {R W : Type 0} → (W → Option (List ℕ)) → (W → Option Calls)
     → SendingLines W → List Entry → Gateway R W → Type 0
 SendsTalk contents told first entries (side.Sends last) =
     SendsAll (due first.lines entries) (known_writing contents told first.writer last.writer) last.way
 SendsTalk contents told first entries (side.Shows last) = ⊥
 
+-- the texts of these reactions, joined
 abbrev pub texts_of : List Reaction → List ℕ
 texts_of reactions = concat (map (λ r. r.text) reactions)
 
@@ -62,9 +63,9 @@ EndsAtLast [] = ⊥
 EndsAtLast (r ∷ []) = r.after ≡ Done
 EndsAtLast (r ∷ next ∷ reactions) = (r.after ≡ Stay) × EndsAtLast (next ∷ reactions)
 
--- What was shown is what the reader gave, in order, with a line feed for each new line, but for a carriage
--- return that waits; and all of it once the job has ended, unless a read is to fail. Each step made one
--- read.
+-- The bytes that were shown are those that the reader gave, in order, with a line feed for each new line, but
+-- for a carriage return that waits; and all of them once the job has ended, unless a read is to fail. Each
+-- step made one read.
 pub record ShowsAll (waited : Bool) (reactions : List Reaction) (waits : Bool)
     (first last : KnownReader) : Type 0 where
   pub reads : List (List ℕ)
@@ -74,7 +75,7 @@ pub record ShowsAll (waited : Bool) (reactions : List Reaction) (waits : Bool)
   pub none_waits : EndsAtLast reactions → IsFalse waits
   pub all : EndsAtLast reactions → IsAtEnd last.bytes ⊎ IsToFail first.failures
 
--- these steps led the job in the background here
+-- these steps led the job in the background to this state
 abbrev pub ShowsTalk : {R W : Type 0} → (R → Option (List ℕ)) → (R → Option Failures)
     → (R → Option (List WindowSize)) → (R → List (List ℕ)) → Showing R → List Reaction → Gateway R W → Type 0
 ShowsTalk remaining foretold sizes words first reactions (side.Shows last) =

@@ -6,18 +6,19 @@ use crate::services::answering::Answerer;
 use std::alloc::{AllocError, Global};
 use tn_session::Maker;
 
-/// Makes the jobs of one session: one in the foreground and, where it has something to do, one that
+/// A maker of the jobs of one session: one in the foreground and, if it has ticks to make, one that
 /// ticks in the background.
 #[derive(Clone, Copy, Drop)]
 pub struct Answerers {
     // Whether the foreground job is still to come.
     first: bool,
-    // How often the background job ticks that is still to come, or 0 where none is.
+    // The number of ticks of the background job that is still to come, or 0 if none is.
     ticks: u16,
 }
 
 impl Answerers {
-    /// Jobs of which the one in the background ticks so many times; there is none where that is 0.
+    /// Makes a maker whose background job ticks this number of times; there is no such job if it is
+    /// 0.
     pub fn new(ticks: u16) -> Answerers
         ensures first { IsTrue result.first }
         ensures ticks { result.ticks ≡ ticks }

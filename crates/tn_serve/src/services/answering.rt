@@ -1,4 +1,4 @@
-//! What a served session's job writes in answer to what its user types.
+//! The job of a served session, which answers what its user types.
 
 ghost use Rattle.std.specs.Prelude.{◌≡◌, Some, IfOk, IfErr};
 ghost use Rattle.tn_serve.specs.services.Answering.{MayRefuse, say, answer_line};
@@ -7,17 +7,19 @@ use std::alloc::{AllocError, Global};
 use tn_discipline::{Entry, Sig, Text};
 use tn_jobs::{After, Job, Reaction};
 
-/// A job of a served session. In the foreground it writes each line back; the line `exit` and the end
-/// of file end it with `bye`, and a signal is named. In the background it ticks as often as is left.
+/// A job of a served session. In the foreground it writes each line back; the line `exit` and the
+/// end of file end it with `bye`, and it names a signal. In the background it ticks as often as is
+/// left.
 #[derive(Drop)]
 pub struct Answerer {
-    // How many ticks it was made for, and how many of them are left.
+    // The number of ticks for which it was made, and the number of them that are left.
     ticks: u16,
     left: u16,
 }
 
 impl Answerer {
-    /// A job that makes so many ticks, one at each step in the background. In the foreground it makes none.
+    /// Makes a job of this number of ticks, one at each step in the background. In the foreground
+    /// it makes none.
     pub fn new(ticks: u16) -> Self
         ensures ticks { result.ticks ≡ ticks }
         ensures left { result.left ≡ ticks }

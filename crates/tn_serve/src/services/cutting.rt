@@ -1,4 +1,4 @@
-//! Lines that may have been cut at the terminal's limit.
+//! Lines that may have been truncated at the terminal's limit.
 
 ghost use Rattle.std.specs.Prelude.{◌≡◌, option_copied};
 ghost use Rattle.tn_serve.specs.services.Cutting.{is_ending, is_full, missing};
@@ -6,31 +6,32 @@ ghost use Rattle.tn_serve.specs.services.Cutting.{is_ending, is_full, missing};
 use tn_discipline::Limit;
 use tn_lines::LineEnd;
 
-/// Who hears of a line that may have been cut.
+/// A receiver of the report that a line may have been truncated.
 pub trait HearsCut {
-    /// A line of so many bytes is as long as one may be.
+    /// Takes the report that a line of this number of bytes is as long as one may be.
     fn hear_cut(&self, bytes: usize);
 }
 
-/// Who hears of a service that speaks Telnet.
+/// A receiver of the report that a service speaks Telnet.
 pub trait HearsTelnet {
     fn hear_telnet(&self);
 }
 
-/// Who has a text for a session's user.
+/// A holder of a text for a session's user.
 pub trait Greets {
-    /// What is read before what the service says.
+    /// Returns the text that the user reads before the service's bytes.
     fn banner(&self) -> &[u8];
 }
 
-/// How lines go to a service.
+/// The form in which lines go to a service.
 #[derive(Clone, Copy, PartialEq, Eq)]
 pub struct LineFormat {
-    /// What ends each of them there.
+    /// The bytes that end each line for the service.
     pub line_end: LineEnd,
     /// The limit of the terminal that they are edited for.
     pub limit: Limit,
-    /// Whether one that may have been cut ends the session, in place of going to the service.
+    /// Whether a line that may have been truncated ends the session, in place of going to the
+    /// service.
     pub ends_cut: bool,
     /// Whether signals and the end of file go to the service as the bytes of ^C, ^\, ^Z and ^D, and do nothing
     /// else.
@@ -38,8 +39,9 @@ pub struct LineFormat {
 }
 
 impl LineFormat {
-    // Whether a line is as long as one may be. A terminal drops what is typed behind that, wherever the line
-    // is edited, and so one that was typed to that length looks the same.
+    // Returns whether a line is as long as one may be. A terminal drops the keys that are typed
+    // after that, wherever the line is edited, so a line that was typed to exactly that length
+    // looks no different.
     pub(crate) fn is_full(self, line: &[u8]) -> bool
         ensures { result ≡ is_full self.limit line.now }
     {
@@ -56,8 +58,8 @@ impl LineFormat {
     }
 }
 
-// How many bytes a line has less than its keys would give with a line feed: an end of file closes it with
-// none.
+// Returns the number of bytes that a line lacks of those that its keys would give with a line feed:
+// an end of file closes it with none.
 fn missing(last: Option<&u8>) -> usize
     ensures { result ≡ missing (option_copied last.entry) }
 {

@@ -24,13 +24,14 @@ use tn_net::network::Network;
 use tn_net::{Closing, Hook};
 use tn_session::{Finish, Maker};
 
-/// How often a write looks that at least, while the service takes nothing.
+/// The least number of looks of a write, while the service takes nothing.
 const LOOKS: u32 = 20;
 
-/// How often it looks in a second.
+/// The number of looks of a write in a second.
 const LOOKS_A_SECOND: u32 = 4;
 
-/// How many milliseconds a read waits behind a carriage return, until that is shown by itself.
+/// The number of milliseconds for which a read waits after a carriage return, until that is shown
+/// by itself.
 const SOON: u64 = 20;
 
 /// A stream of which each read waits for a time that can be set.
@@ -57,10 +58,11 @@ pub struct Joiner<H, N> {
 }
 
 impl<H, N> Joiner<H, N> {
-    /// Jobs that are joined to the service at this host and port, or at the path of a socket if the host is
-    /// `unix:` and that path, which they dial for so many seconds at most.
-    /// They hang up by this hook once it ends. The first of `notes` is told of a service that speaks Telnet,
-    /// and gives what the user reads first; the second is told of lines that may have been cut.
+    /// Makes jobs that are joined to the service at this host and port, or at the path of a socket
+    /// if the host is `unix:` and that path, which they dial for at most `patience` seconds. They
+    /// hang up by this hook once the service ends. The first of `notes` gets the report of a
+    /// service that speaks Telnet, and gives the text that the user reads first; the second gets
+    /// the reports of lines that may have been truncated.
     pub fn new(
         rt: H,
         host: String,
@@ -90,7 +92,7 @@ impl<H, N> Joiner<H, N> {
 }
 
 impl<H: Clock + Copy + Network + Wait, N: Drop> Joiner<H, N> {
-    // The connection to the service, which is still to be made.
+    // Makes the connection to the service, which is still to be dialled.
     fn joint(&self, alloc: Global) -> Result<Arc<Joint, Global>, AllocError>
         ensures host { IfOk result (λ joint.
             string_bytes joint.value.host ≡ string_bytes self.now.host) }
@@ -142,7 +144,7 @@ impl<H: Clock + Copy + Network + Wait, N: Drop> Joiner<H, N> {
         Ok(Gateways::new(reader, writer, self.lines))
     }
 
-    // Joins the session to the service, where that was not tried yet.
+    // Joins the session to the service, if that was not tried yet.
     fn connect(&mut self, alloc: Global) -> Result<(), AllocError>
         ensures connects { OnOk result (Connects (λ writer. IsToldTo self.old.rt
             (string_bytes self.old.host) self.old.port self.old.patience writer.stream)
@@ -190,22 +192,22 @@ impl<H: Clock + Copy + Network + Wait, N: Greets + HearsCut + HearsTelnet + Drop
     }
 }
 
-/// What the service says. Its end hangs up, and where the session is over, it ends. Behind a carriage
-/// return a read is interrupted where nothing comes soon, so that one by itself does not wait for what
-/// comes next.
+/// The reader of the service's bytes. Their end hangs up, and the reader ends if the session is
+/// over. After a carriage return a read is interrupted if nothing comes soon, so that a carriage
+/// return by itself does not wait for the next bytes.
 #[derive(Drop)]
 pub struct ServiceReader<H, S, K = Hook> {
     rt: H,
     stream: S,
     hook: K,
-    /// It has said all.
+    /// The service has closed its side.
     said_all: Arc<AtomicBool, Global>,
     /// A carriage return came last.
     returned: bool,
 }
 
 // tools/progress: d_gateway.pml, MAKES_STEP
-// Reads what comes, until the session is over, or, behind a carriage return, for a short time.
+// Reads what comes, until the session is over, or, after a carriage return, for a short time.
 fn hear<H: Wait, S: Read, K: HangUp>(
     rt: &H,
     stream: &mut S,
@@ -241,7 +243,7 @@ impl<H: Copy + Wait, S: Drop + Read + Pacing, K: HangUp> ServiceReader<H, S, K> 
         hear(&self.rt, &mut self.stream, &self.hook, self.returned, buf)
     }
 
-    // From now on a read waits for as long as it may behind this last byte.
+    // Sets the time for which a read waits, after this last byte.
     fn pace(&mut self, returned: bool)
         ensures stream { self.new.stream ≡ self.old.stream }
         ensures hook { self.new.hook ≡ self.old.hook }
@@ -280,8 +282,9 @@ impl<H: Copy + Wait, S: Drop + Read + Pacing, K: HangUp> Read for ServiceReader<
     }
 }
 
-/// What the service is told. Where the session is over, or the service has said all, one that takes nothing
-/// is given up in time; at an interrupt it is given up at once.
+/// The writer of the lines to the service. If the session is over, or the service has closed its
+/// side, a write that the service does not take is given up in time; at an interrupt it is given up
+/// at once.
 #[derive(Drop)]
 pub struct ServiceWriter<H, S, N> {
     rt: H,
@@ -290,13 +293,14 @@ pub struct ServiceWriter<H, S, N> {
     said_all: Arc<AtomicBool, Global>,
     /// Interrupts end the session, in place of going to the service.
     heeds_interrupts: bool,
-    /// It hears of lines that may have been cut.
+    /// The receiver of the reports of lines that may have been truncated.
     notes: N,
 }
 
 // tools/progress: d_gateway.pml, ANSWERS
-// Writes as much as the stream takes at once, until the session is over, or the service has said all, and it
-// takes nothing in time; or until an interrupt waits, if that is to end the session.
+// Writes as much as the stream takes at once, until the session is over, or the service has closed
+// its side, and it takes nothing in time; or until an interrupt waits, if that is to end the
+// session.
 fn tell<H: Wait, S: Write>(
     rt: &H,
     stream: &mut S,
@@ -358,13 +362,13 @@ impl<H, S, N: HearsCut> HearsCut for ServiceWriter<H, S, N> {
     }
 }
 
-// Whether the service has taken nothing for longer than it may: then the session ends. What its user may have
-// left can't be seen where what he sent before fills the connection.
+// Returns whether the service has taken nothing for longer than it may: then the session ends. If
+// the bytes sent before fill the connection, it does not show whether the user has left.
 fn is_late(looks: u32, patience: usize) -> bool {
     patience > 0 && (looks / LOOKS_A_SECOND) as usize >= patience
 }
 
-// Whether no more goes to the service, after so many looks at which it took nothing.
+// Returns whether no more goes to the service, after this number of looks at which it took nothing.
 fn is_given_up(looks: u32, hook: &Hook, said_all: &AtomicBool, heeds_interrupts: bool) -> bool {
     if heeds_interrupts && hook.is_interrupted() {
         return true;
@@ -372,13 +376,13 @@ fn is_given_up(looks: u32, hook: &Hook, said_all: &AtomicBool, heeds_interrupts:
     looks >= LOOKS && is_to_end(hook, said_all)
 }
 
-// Whether the service is to be told no more than it takes: nothing more comes from the user than came by now,
-// or the service has said all, which ends the session.
+// Returns whether the service is to be sent no more than it takes: nothing more comes from the user
+// than has come, or the service has closed its side, which ends the session.
 fn is_to_end(hook: &Hook, said_all: &AtomicBool) -> bool {
     hook.is_over() || hook.has_client_ended() || said_all.load(Ordering::SeqCst)
 }
 
-// Whether a read gave bytes that end with a carriage return.
+// Returns whether a read gave bytes that end with a carriage return.
 fn ends_by_return(read: &io::Result<usize>, buf: &[u8]) -> bool {
     match read {
         Ok(count) if *count > 0 => matches!(buf.get(*count - 1), Some(b'\r')),
@@ -386,12 +390,12 @@ fn ends_by_return(read: &io::Result<usize>, buf: &[u8]) -> bool {
     }
 }
 
-// The call waited for its time.
+// Returns whether the call waited for its time.
 fn is_timeout(error: &io::Error) -> bool {
     error.kind() == ErrorKind::WouldBlock
 }
 
-// The service has said all, or its connection is broken.
+// Returns whether the service has closed its side, or its connection is broken.
 fn is_last(read: &io::Result<usize>) -> bool
     ensures last { IsTrue result → IsLast read.now }
     ensures other { IsFalse result → ¬ IsLast read.now }

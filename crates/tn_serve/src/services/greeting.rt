@@ -14,7 +14,7 @@ use tn_session::Maker;
 pub enum Greeted<J> {
     /// A job of the session's own.
     Answers(J),
-    /// The job that says this text, in the background, and is done.
+    /// The job that shows this text, in the background, and is done.
     Greets(Text),
 }
 
@@ -29,7 +29,7 @@ impl<J: Job> Job for Greeted<J> {
 
     ghost refuses = { λ job entry. MayRefuse J.refuses job entry };
 
-    // The job that greets is asked for none.
+    // Answers an entry; the job that greets gets none.
     fn entry(&mut self, alloc: Global, entry: Entry) -> Result<Reaction, AllocError> {
         match self {
             Greeted::Answers(job) => {
@@ -55,19 +55,20 @@ impl<J: Job> Job for Greeted<J> {
     }
 }
 
-/// Makes the jobs of a maker, and after the first of them one that greets the session's user. The text is said
-/// as soon as the session has begun. A line that was sent before that may be answered first.
+/// A maker of the jobs of another maker, and after the first of them one that greets the session's
+/// user. The text is shown as soon as the session has begun. A line that was sent before that may
+/// be answered first.
 #[derive(Drop)]
 pub struct Greeting<M> {
     maker: M,
-    // What is still to be said.
+    // The text that is still to be shown.
     text: Option<Text>,
     // Whether the first job was asked for.
     begun: bool,
 }
 
 impl<M> Greeting<M> {
-    /// The jobs that `maker` makes, whose user reads this text first.
+    /// Makes the jobs of `maker` with one that shows this text first.
     pub fn new(maker: M, text: Text) -> Greeting<M>
         ensures maker { result.maker ≡ maker }
         ensures text { result.text ≡ Some text }

@@ -1,11 +1,12 @@
-//! How the end of a service ends the session that is joined to it.
+//! The end of the session that is joined to a service, by the end of that service.
 
 ghost use Rattle.std.specs.Prelude.{◌≡◌, Bool, None, Option};
 ghost use Rattle.tn_serve.specs.services.HangingUp.{hung_up_on};
 
 use tn_net::Hook;
 
-/// How a job ends its session from outside of the session, and learns that the session is over.
+/// A hook by which a job ends its session from outside of the session, and sees that the session is
+/// over.
 pub trait HangUp {
     // Whether the session was hung up, if that is counted.
     ghost hung_up: { Self → Option Bool } = { λ _. None };
@@ -14,7 +15,7 @@ pub trait HangUp {
     fn hang_up(&mut self)
         ensures { hung_up self.new ≡ hung_up_on (hung_up self.old) };
 
-    /// Whether nothing more comes from the session's client.
+    /// Returns whether nothing more comes from the session's client.
     fn is_over(&self) -> bool;
 }
 

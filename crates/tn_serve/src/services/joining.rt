@@ -31,7 +31,7 @@ impl<R: Source + Drop, W: Finish + HearsCut + Drop> Job for Gateway<R, W> {
 
     ghost refuses = { λ job entry. MayRefuse job entry };
 
-    // The job in the background is asked for none.
+    // Answers an entry; the job in the background gets none.
     fn entry(&mut self, alloc: Global, entry: Entry) -> Result<Reaction, AllocError> {
         match self {
             Gateway::Sends(sending) => {
@@ -42,7 +42,7 @@ impl<R: Source + Drop, W: Finish + HearsCut + Drop> Job for Gateway<R, W> {
         }
     }
 
-    // The job in the foreground makes none.
+    // Makes a step; the job in the foreground makes none.
     fn step(&mut self, alloc: Global) -> Result<Reaction, AllocError> {
         match self {
             Gateway::Sends(_) => Ok(silent(alloc, After::Done)),

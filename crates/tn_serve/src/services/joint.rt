@@ -17,21 +17,24 @@ use std::{io, thread};
 use tn_net::network::{Network, reach_service};
 use tn_net::{Closing, Hook};
 
-/// How many milliseconds a read or a write waits before it looks whether its session is over.
+/// The number of milliseconds for which a read or a write waits before it looks whether its session
+/// is over.
 pub(crate) const LOOK: u64 = 250;
 
-/// How many seconds each address is waited for, before it is looked whether the session is over.
+/// The number of seconds for which each address is waited for, before it is checked whether the
+/// session is over.
 const SLICE: u32 = 1;
 
-/// After how many milliseconds without a connection an address is asked again.
+/// The number of milliseconds without a connection after which an address is asked again.
 const WAITED: u64 = 900;
 
-/// How often a write looks for the connection until then, and how many milliseconds lie between.
+/// The number of looks of a write for the connection until then, and the number of milliseconds
+/// between them.
 const WAITS: u8 = 25;
 
 const WAIT: u64 = 10;
 
-/// What a user reads in place of what the service says, before the cause.
+/// The text that a user reads in place of the service's bytes, before the cause.
 const UNREACHED: &[u8] = b"the service cannot be reached";
 
 /// The connection to a line service, as both sides of a session have it: the one that reads makes it.
@@ -40,7 +43,7 @@ pub struct Joint {
     /// The host, or `unix:` and the path of a socket, which has no port.
     pub(crate) host: String,
     pub(crate) port: u16,
-    /// For how many seconds the service is dialled.
+    /// The number of seconds for which the service is dialled.
     pub(crate) patience: u32,
     pub(crate) stream: OnceLock<TcpStream>,
     /// The service is not dialled any more.
@@ -77,25 +80,27 @@ fn prepared(stream: &TcpStream) -> io::Result<TcpStream> {
     stream.try_clone()
 }
 
-/// What the service says. The first reads dial it, and each of them waits for a short time.
+/// The reader of the service's bytes. The first reads dial the service, and each read waits for a
+/// short time.
 #[derive(Drop)]
 pub struct Heard<H, N> {
     pub(crate) rt: H,
     pub(crate) joint: Arc<Joint, Global>,
     alloc: Global,
     hook: Hook,
-    /// When it was dialled first.
+    /// The moment at which the service was dialled first.
     began: Option<Instant>,
-    /// What is read if the service was not reached, before the cause and after it.
+    /// The text that is read if the service was not reached, before the cause and after it.
     words: &'static [u8],
     end: &'static [u8],
     /// The cause, and how many bytes of it were read.
     cause: Vec<u8>,
     told: usize,
     speech: Speech,
-    /// It has what is read first, and hears of a service that speaks Telnet.
+    /// The holder of the text that is read first, which gets the report of a service that speaks
+    /// Telnet.
     notes: N,
-    /// How many bytes of what is read first were read.
+    /// The number of bytes of the first text that were read.
     greeted: usize,
 }
 
@@ -162,7 +167,8 @@ impl<H: Clock + Copy + Network + Wait, N: Drop> Heard<H, N> {
         }
     }
 
-    // How many milliseconds it was dialled for since this moment. Without a clock none.
+    // Returns the number of milliseconds for which the service was dialled since this moment.
+    // Without a clock it is 0.
     fn waited(&self, moment: Option<Instant>) -> u64 {
         match moment.map(|moment| moment.elapsed(&self.rt)) {
             Some(Ok(elapsed)) => u64::try_from(elapsed.as_millis()).unwrap_or(u64::MAX),
@@ -190,14 +196,14 @@ impl<H: Clock + Copy + Network + Wait, N: Drop> Heard<H, N> {
         read
     }
 
-    // For how many milliseconds it is dialled.
+    // Returns the number of milliseconds for which the service is dialled.
     fn patience(&self) -> u64 {
         u64::from(self.joint.patience).saturating_mul(1_000)
     }
 }
 
 impl<H, N: Greets> Heard<H, N> {
-    // What is left of what is read first.
+    // Returns the rest of the text that is read first.
     fn greeting(&self) -> &[u8] {
         self.notes.banner().get(self.greeted..).unwrap_or(b"")
     }
@@ -243,8 +249,8 @@ impl<H, N> Pacing for Heard<H, N> {
     }
 }
 
-// Keeps the text of what was read, and tells once of a service that speaks Telnet. A read without text is to
-// be made again.
+// Keeps the text of the bytes that were read, and reports once a service that speaks Telnet. A read
+// without text is to be made again.
 fn keep_text<N: HearsTelnet>(
     speech: &mut Speech,
     notes: &N,
@@ -267,7 +273,8 @@ fn keep_text<N: HearsTelnet>(
     Ok(kept.min(buf.len()))
 }
 
-/// What goes to the service. Until it is reached a write waits for a short time, and is to be made again.
+/// The writer of bytes to the service. Until the service is reached a write waits for a short time,
+/// and is to be made again.
 #[derive(Drop)]
 pub struct Told<H> {
     pub(crate) rt: H,

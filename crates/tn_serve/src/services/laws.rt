@@ -1,4 +1,4 @@
-//! Laws of whole talks and of a job that ticks, over the definitions alone.
+//! Laws of whole talks and of a job that ticks, only over the definitions.
 
 ghost use Rattle.std.specs.{Prelude.{◌≡◌, ◌≤◌, ◌+◌, ◌++◌, ℕ, List, length, map}, List.FoldsTo};
 ghost use Rattle.tn_discipline.specs.declared.reads.Entry.{Entry};
@@ -14,8 +14,8 @@ ghost use Rattle.tn_session.specs.workers.Talk.{Answers};
 use tn_cores::streams::Source;
 use tn_session::Finish;
 
-/// The service gets each line of the entries that were answered, once and in order, with the line end that
-/// was chosen, and nothing else; where a write failed, the first bytes of that.
+/// The service gets each line of the entries that were answered, once and in order, with the line
+/// end that was chosen, and nothing else. If a write failed, it gets the first bytes of that.
 pub fn lines_go_in_order<R: Source, W: Finish>()
     ensures { (first : SendingLines W) (turns : List (Entry × Reaction)) (last : Gateway R W) → first.way
         ≡ Open

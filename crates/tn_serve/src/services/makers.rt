@@ -20,7 +20,7 @@ pub struct Gateways<R, W> {
 }
 
 impl<R, W> Gateways<R, W> {
-    /// Jobs that read what the service says by the reader, and write lines to it by the writer.
+    /// Makes jobs that read the service's bytes by the reader, and write lines to it by the writer.
     pub fn new(reader: R, writer: W, lines: LineFormat) -> Gateways<R, W>
         ensures reader { result.reader ≡ Some reader }
         ensures writer { result.writer ≡ Some writer }

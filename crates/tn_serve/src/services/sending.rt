@@ -29,7 +29,7 @@ pub enum Way {
     Open,
     /// The user ended it.
     Ended,
-    /// A write failed: the service takes no more, and what it says ends too.
+    /// A write failed: the service takes no more, and its own bytes end too.
     Broken,
 }
 
@@ -42,10 +42,10 @@ pub struct SendingLines<W> {
 }
 
 impl<W: Finish + HearsCut> SendingLines<W> {
-    /// Answers an entry: a line goes to the service, or ends the session if it may have been cut and that is
-    /// wanted. The end of file ends what goes there, an interrupt and a quit end the session too, and a stop
-    /// does nothing; but if signals are to be sent, each of these goes to the service as a byte. Out of memory
-    /// nothing is sent.
+    /// Answers an entry. A line goes to the service, or ends the session if it may have been
+    /// truncated and that is wanted. The end of file ends the lines to the service, an interrupt
+    /// and a quit end the session too, and a stop does nothing; but if signals are to be sent, each
+    /// of these goes to the service as a byte. Out of memory nothing is sent.
     pub(crate) fn answer(&mut self, alloc: Global, entry: Entry) -> Result<Reaction, AllocError>
         ensures answers { IfOk result (λ reaction.
             SendsEntry W.contents W.told self.old entry reaction self.new) }
@@ -68,7 +68,7 @@ impl<W: Finish + HearsCut> SendingLines<W> {
         }
     }
 
-    // Whether signals go to the service.
+    // Returns whether signals go to the service.
     fn is_sent(&self) -> bool
         ensures { result ≡ is_sent self.now.lines self.now.way }
     {
@@ -91,7 +91,8 @@ impl<W: Finish + HearsCut> SendingLines<W> {
         silent(alloc, After::Done)
     }
 
-    // Sends the byte of a key, or ends what goes to the service. Whether it was sent.
+    // Sends the byte of a key, or ends the lines to the service. It returns whether the byte was
+    // sent.
     fn send_or_end(&mut self, byte: u8) -> bool
         ensures sent { result ≡ is_sent self.old.lines self.old.way }
         ensures goes { GoesKey (is_sent self.old.lines self.old.way) byte (ended self.old.way)
@@ -128,7 +129,7 @@ impl<W: Finish + HearsCut> SendingLines<W> {
         }
     }
 
-    // A line while the way is open.
+    // Sends a line while the way is open.
     fn answer_open(&mut self, alloc: Global, line: Text) -> Result<Reaction, AllocError>
         requires { self.old.way ≡ Way.Open }
         ensures { IfOk result (λ reaction.
@@ -158,7 +159,7 @@ impl<W: Finish + HearsCut> SendingLines<W> {
         Ok(())
     }
 
-    // No more goes to the service.
+    // Ends the lines to the service.
     fn end(&mut self)
         ensures nothing { WritesNothing (known_writing W.contents W.told self.old.writer self.new.writer) }
         ensures way { self.new.way ≡ ended self.old.way }
@@ -169,7 +170,7 @@ impl<W: Finish + HearsCut> SendingLines<W> {
     }
 }
 
-// The way once it is ended.
+// Returns the way once it is ended.
 fn ended(way: Way) -> Way
     ensures { result ≡ ended way }
 {
@@ -179,7 +180,7 @@ fn ended(way: Way) -> Way
     }
 }
 
-// The way after a write of which all went well, or not.
+// Returns the way after a write, of which all went well, or not.
 fn way_after(whole: bool) -> Way
     ensures { result ≡ way_after whole }
 {
@@ -189,7 +190,7 @@ fn way_after(whole: bool) -> Way
     Way::Broken
 }
 
-/// A reaction without a text.
+/// Makes a reaction without a text.
 pub(crate) fn silent(alloc: Global, after: After) -> Reaction
     ensures { result ≡ silent after }
 {

@@ -1,4 +1,4 @@
-//! The job in the background: what the service says goes to the user.
+//! The job in the background, which shows the user the service's bytes.
 
 ghost use Rattle.std.specs.Prelude.{◌≡◌, ◌+◌, ◌≤◌, ◌<◌, ◌++◌, [], ◌∷◌, false, IsFalse, IfOk, length};
 ghost use Rattle.std.specs.Prelude.{vec_capacity, vec_len};
@@ -10,12 +10,12 @@ use tn_cores::streams::{Source, is_interrupted};
 use tn_discipline::Text;
 use tn_jobs::{After, Reaction};
 
-/// How many bytes one read asks for. As many as a session's mailbox holds may wait for a user who reads
-/// slowly.
+/// The number of bytes for which one read asks. As many reads as a session's mailbox holds may wait
+/// for a user who reads slowly.
 const PIECE_BYTES: usize = 1_024;
 
-/// Shows what the service says. A carriage return waits for the next byte, for an interruption or for the
-/// end: only then it is known whether it is one by itself.
+/// A job that shows the service's bytes. A carriage return waits for the next byte, for an
+/// interruption or for the end: only then it is known whether it is one by itself.
 #[derive(Drop)]
 pub struct Showing<R> {
     pub(crate) reader: R,
@@ -24,8 +24,8 @@ pub struct Showing<R> {
 }
 
 impl<R: Source> Showing<R> {
-    /// Waits for what the service says next. Its end ends the job, and so does a read that fails. Memory
-    /// for what is shown is there before the read.
+    /// Waits for the service's next bytes. Their end ends the job, and so does a read that fails.
+    /// The memory for the text that is shown is there before the read.
     pub(crate) fn step(&mut self, alloc: Global) -> Result<Reaction, AllocError>
         ensures { IfOk result (λ reaction. Shows self.old.waits reaction.text reaction.after self.new.waits
             (known_reader R.remaining R.foretold R.sizes R.words self.old.reader)
@@ -78,8 +78,8 @@ impl<R: Source> Showing<R> {
     }
 }
 
-// Appends what is shown of a byte and of the carriage return that waited before it, if one did. Returns
-// whether one waits now.
+// Appends the text of a byte and of the carriage return that waited before it, if one did. It
+// returns whether one waits after the call.
 fn settle_byte(waited: bool, byte: u8, text: &mut Vec<u8>) -> bool
     requires { vec_len text.old + length (waiting waited) + 1 ≤ vec_capacity text.old }
     ensures items { text.new.items ≡ text.old.items ++ settled (waiting waited ++ byte ∷ []) }
@@ -110,8 +110,8 @@ fn settle_byte(waited: bool, byte: u8, text: &mut Vec<u8>) -> bool
     }
 }
 
-// Appends what is shown of these bytes and of the carriage return that waited before them, to a text that
-// has room. Returns whether one waits now.
+// Appends the text of these bytes and of the carriage return that waited before them, to a text
+// that has room. It returns whether one waits after the call.
 fn settle(waited: bool, bytes: &[u8], text: Vec<u8>) -> (Vec<u8>, bool)
     requires { vec_len text + 1 + length bytes.now ≤ vec_capacity text }
     ensures items { result.0.items ≡ text.items ++ settled (waiting waited ++ bytes.now) }

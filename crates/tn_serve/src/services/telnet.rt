@@ -1,8 +1,8 @@
-//! Telnet in what a service says, which is no part of its text.
+//! Telnet in a service's bytes, which is no part of its text.
 
 ghost use Rattle.std.specs.Prelude.{◌≤◌, length};
 
-/// What begins a command (RFC 854).
+/// The byte that begins a command (RFC 854).
 const IAC: u8 = 255;
 
 /// The commands that an option's code follows: WILL, WONT, DO and DONT.
@@ -15,7 +15,7 @@ const SB: u8 = 250;
 
 const SE: u8 = 240;
 
-/// Where the next byte stands.
+/// The place of the next byte.
 #[derive(Clone, Copy, PartialEq, Eq)]
 enum Place {
     Text,
@@ -25,8 +25,8 @@ enum Place {
     CommandWithin,
 }
 
-/// What is known of a service: it speaks Telnet once it has said IAC and WILL, WONT, DO or DONT. From then on
-/// its commands are no text; before that, IAC is a letter of some code.
+/// The state of a service's stream: it speaks Telnet once it has sent IAC and WILL, WONT, DO or
+/// DONT. From then on its commands are no text; before that, IAC is a letter of some code.
 #[derive(Clone, Copy)]
 pub(crate) struct Speech {
     speaks_telnet: bool,
@@ -64,7 +64,8 @@ impl Speech {
         kept.min(bytes.len())
     }
 
-    // Whether a byte is text. If the service has said nothing of Telnet, the next byte says whether it begins.
+    // Returns whether a byte is text. If the service has sent nothing of Telnet, the next byte
+    // shows whether it begins.
     fn is_text(&mut self, byte: u8, next: Option<u8>) -> bool {
         if !self.speaks_telnet {
             return !self.begins(byte, next);
@@ -74,7 +75,8 @@ impl Speech {
         is_text
     }
 
-    // Whether Telnet begins with this byte. An IAC that came last is shown, and what follows it is not.
+    // Returns whether Telnet begins with this byte. An IAC that came last is shown, and the command
+    // after it is not.
     fn begins(&mut self, byte: u8, next: Option<u8>) -> bool {
         let was_command = self.place == Place::Command;
         self.place = Place::Text;
@@ -96,7 +98,7 @@ fn is_verb(byte: u8) -> bool {
     FIRST_VERB <= byte && byte <= LAST_VERB
 }
 
-// Where the byte after this one stands, and whether this one is text.
+// Returns the place of the byte after this one, and whether this one is text.
 fn after(place: Place, byte: u8) -> (Place, bool) {
     match (place, byte) {
         (Place::Text, IAC) => (Place::Command, false),

@@ -1,4 +1,4 @@
--- Why an item was refused, said of the history.
+-- The cause why an item was refused, in terms of the history.
 use Rattle.std.proofs.Common.{◌<◌, inl, inr, ℕ, length, sym, ap, ◌∙◌, subst}
 use Rattle.tn_discipline.specs.{HalfLine.{HalfLine, GivesText}, Keys.gives_entry, declared.keys.Role.Role}
 use Rattle.tn_linemode.specs.Words.{IsList}

@@ -1,4 +1,4 @@
--- Where a course leads.
+-- The ends to which a course leads.
 use Rattle.std.proofs.Common.{◌≡◌, ◌<◌, ℕ, List, [], ◌∷◌, ◌++◌, length, map, take, drop, refl, sym, ap, ◌∙◌, subst, append-nil, append_assoc, arith, min, ◌≤◌}
 use Rattle.std.proofs.{Math.Seq.take-length, lemmas.List.Elements.{All-head, All-tail}}
 use Rattle.std.specs.{Prelude.All, List.flat_map}

@@ -1,4 +1,4 @@
--- What an end shows of the history that leads to it.
+-- The parts of an end that the history that leads to it determines.
 use Rattle.std.proofs.Common.{◌≡◌, ◌≤◌, ℕ, ◌+◌, nat_lt, Bool, true, false, List, [], ◌∷◌, ◌++◌, length, take, drop, refl, sym, ap, ◌∙◌, arith, if◌then◌else◌}
 use Rattle.std.proofs.{Common.{append-nil, length-append, take-add}, lemmas.Bool.{ltb-true, ltb-false}, Math.Seq.drop-append_seam}
 use Rattle.std.proofs.lemmas.List.{take-append-drop, take-append-le, length-take-le, drop_all}
@@ -8,7 +8,7 @@ use Rattle.tn_nvt.specs.{Feeding.failed, declared.items.Item.Item}
 use Rattle.tn_server.specs.{Events.{History, begun, next, got, took, limit}, Lines.{roles, role_of_item, half, entries, taken_count, line, waiting}}
 use Rattle.tn_server.specs.{Calls.{End, LeadsTo}, Screen.{queue, size, due}, Terms.{terms, asked_mask, mode, chars, settings}}
 
--- where nothing is ahead, the half line is what is held
+-- if nothing is ahead, the half-typed line is the held bytes
 pub line_is : (h : History) (end : End) → LeadsTo h end → end.terminal.line ≡ line h
 line_is h end s = go s.line.sent (s.line.count ∙ s.ahead) s.line.bytes
   where
@@ -25,7 +25,7 @@ line_is h end s = go s.line.sent (s.line.count ∙ s.ahead) s.line.bytes
 drop_read : (read rest : List Entry) (n : ℕ) (es : List Entry) → length read ≡ n → es ≡ read ++ rest → drop n es ≡ rest
 drop_read read rest n es e f = rw (← e, f) (drop-append_seam read rest)
 
--- what waits is what the end holds
+-- the entries that wait are those that the end holds
 pub waits_are : (h : History) (end : End) → LeadsTo h end → waiting h ≡ end.terminal.entries
 waits_are h end s = drop_read s.read end.terminal.entries (taken_count h) (entries h) s.count s.waits
 
@@ -97,7 +97,7 @@ taken_got h item =
     ap (take (taken_count h)) (more_entries h item)
     ∙ take-append-le (taken_count h) (entries h) (gain_all (limit h) (half h) (roles_from (role_of_item h item))) (taken_fits h)
 
--- and a job the first that waits, if one does
+-- a job takes the first entry that waits, if one does
 pub taken_took : (h : History) → taken_at (next h took) ≡ taken_at h ++ take 1 (waiting h)
 taken_took h = go (nat_lt (taken_count h) (length (entries h))) refl
   where

@@ -13,7 +13,7 @@ after_both = folding.after_both end_after_item
 pub says_both : (old : End) (xs ys : List Item) → says_items old (xs ++ ys) ≡ says_items old xs ++ says_items (end_after_items old xs) ys
 says_both = folding.said_both end_after_item says_item
 
--- bytes of data say nothing
+-- bytes of data get no reply
 pub says_plain : (old : End) (bytes : List ℕ) → says_items old (map Byte bytes) ≡ []
 says_plain old [] = refl
 says_plain old (b ∷ bs) = says_plain (end_after_item old (Byte b)) bs
@@ -71,7 +71,7 @@ module _ (d : DecoderState) (failed closed : Bool) where
       ∙ ap (λ (e : End). says_item old item ++ says_items e items) (item_aside old item)
       ∙ ap (λ (said : List Item). says_item old item ++ said) (says_aside (end_after_item old item) items)
 
--- so an event keeps them
+-- an event keeps the decoder, the failure and whether the terminal is shut
 pub call_keeps : (old : End) (e : Event) → end_after old e ≡ aside old.decoder old.failed old.terminal.closed (end_after old e)
 call_keeps old e = call_aside old.decoder old.failed old.terminal.closed old e
 

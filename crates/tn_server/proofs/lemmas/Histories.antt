@@ -1,4 +1,4 @@
--- What holds of every history.
+-- Facts that hold of every history.
 use Rattle.std.proofs.Common.{◌≡◌, List, [], ◌∷◌, ◌++◌, refl, sym, ◌∙◌, append-nil, append_assoc}
 use Rattle.tn_linemode.proofs.lemmas.Folding as folding
 use Rattle.tn_nvt.specs.declared.items.Item.{Item}

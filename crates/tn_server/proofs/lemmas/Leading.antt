@@ -1,4 +1,4 @@
--- Where each event leads, from a history to the end.
+-- The end to which each event leads from a history.
 use Rattle.std.proofs.Common.{◌≡◌, ℕ, List, ◌++◌, take, map, refl, sym, ap, ◌∙◌, subst}
 use Rattle.tn_discipline.specs.declared.echo.Symbol.{Symbol}
 use Rattle.tn_linemode.proofs.lemmas.Folding as folding

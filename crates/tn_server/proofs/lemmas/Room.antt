@@ -1,4 +1,4 @@
--- How many entries a piece of a stream makes at most.
+-- The most entries that a piece of a stream makes.
 use Rattle.std.proofs.Common.{◌≡◌, ◌≢◌, inl, inr, ℕ, ◌+◌, ◌≤◌, ◌<◌, Bool, true, false, if◌then◌else◌, List, [], ◌∷◌, ◌++◌, length, drop, refl, sym, ap, ◌∙◌}
 use Rattle.std.proofs.{Common.{subst, arith, append_assoc, length-append, length-drop}, lemmas.{Bool.Decides.{eqb_tells, leb_tells}, List.append_cancel_left}}
 use Rattle.std.proofs.lemmas.List.Elements.{All-tail}
@@ -19,7 +19,7 @@ use Rattle.tn_server.proofs.lemmas.{Courses.{one_history, reads_all}, Stopping.{
 
 -- LISTS
 
--- of two ways to cut a list, the longer first part begins with the shorter
+-- if a list is cut in two ways, the longer first part begins with the shorter
 begins_with : (a b c d : List ℕ) → a ++ b ≡ c ++ d → length c ≤ length a → (e : List ℕ) × (a ≡ c ++ e)
 begins_with a b [] d e short = (a, refl)
 begins_with [] b (x ∷ c) d e short = absurd (omega (arith, short))
@@ -94,7 +94,7 @@ no_whole rest later s bytes partial is e =
       text_some s,
     )
 
--- so the first segment that more bytes complete goes past the rest
+-- the first segment that more bytes complete goes past the rest
 goes_past : (rest more after : List ℕ) (s : Segment) → All (λ b. b < 256) rest → IsPartial rest → IsSegment s → rest ++ more ≡ text s ++ (look_ahead s ++ after)
     → length rest < length (text s) + length (look_ahead s)
 goes_past rest more after s bytes partial is e =

@@ -1,4 +1,4 @@
--- What a refused piece leaves, seen from the piece's items.
+-- The end that a refused piece leaves, seen from the piece's items.
 use Rattle.std.proofs.Common.{◌≡◌, ◌≢◌, ℕ, List, [], ◌∷◌, ◌++◌, length, refl, sym, ap, ◌∙◌, subst, append_assoc}
 use Rattle.tn_nvt.specs.{Feeding.{DecoderState, failed}, declared.items.Item.Item}
 use Rattle.tn_nvt.specs.Feeding as nvt
@@ -10,7 +10,7 @@ use Rattle.tn_server.specs.{Stopping.StopsBetween, declared.faults.ServerFault.{
 use Rattle.tn_server.proofs.lemmas.{Leading.{stands_all, says_all, stands_halted}, Courses.one_history, Ends.waits_are, Gathering.says_both}
 use Rattle.tn_server.proofs.lemmas.Histories.{gets-append}
 
--- a prefix of the first reply is a prefix of all that the items make the end say
+-- a prefix of the first reply is a prefix of the replies to all items
 pub front_said : (end : End) (left more part rest : List Item) → first_said end left ≡ part ++ rest → (unsaid : List Item)
     × (says_items end (left ++ more) ≡ part ++ unsaid)
 front_said end [] more part rest e =

@@ -1,4 +1,4 @@
--- What stays where nothing new is agreed on.
+-- The parts of an end that stay if nothing new is agreed on.
 use Rattle.std.proofs.Common.{◌≡◌, ℕ, ◌==◌, Bool, true, false, Option, None, [], refl, rules}
 use Rattle.tn_discipline.specs.{Characters.Characters, declared.termios.Flags.Flags}
 use Rattle.tn_linemode.specs.{Modes.mode_of, Words.differ}
@@ -6,7 +6,7 @@ use Rattle.tn_option.specs.Options.{Options, options_after_wish, state_of}
 use Rattle.tn_server.specs.{Terms.{Terms, linemode, asked_mask_while, mode_sent, terms_by, wish_after, options_with_echo}, Replies.{items_by, new_table_items}}
 use Rattle.tn_server.specs.declared.wishes.Editing.{Editing}
 
--- where nothing is new, nothing is said and all stays
+-- if nothing is new, nothing is sent and all stays
 pub differ_self : (b : Bool) → differ b b ≡ false
 differ_self true = refl
 differ_self false = refl
@@ -31,7 +31,7 @@ pub says_nothing : (f : Flags) (c : Characters) (t : Terms) (editing : Option Ed
 says_nothing f c t editing e =
     rw (e, told_again (linemode t.options) t.wish, differ_self (linemode t.options), table_again (linemode t.options) c) refl
 
--- the server's word for ECHO changes nothing at LINEMODE
+-- the server's message for ECHO changes nothing at LINEMODE
 pub echo_keeps_linemode : (due wanted : Bool) (o : Options) → linemode (options_with_echo due wanted o) ≡ linemode o
 unfolding options_after_wish state_of
 echo_keeps_linemode true wanted o = refl

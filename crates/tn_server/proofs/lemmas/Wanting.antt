@@ -1,4 +1,4 @@
--- What lacks room says something.
+-- A reply that lacks room is not empty.
 use Rattle.std.proofs.Common.{◌≢◌, ℕ, Vec, []}
 use Rattle.tn_nvt.proofs.lemmas.Lacking.{lacks_items}
 use Rattle.tn_server.specs.{Calls.End, Events.Event, Steps.{says, LacksRoomFor}}

@@ -1,4 +1,4 @@
--- The option words of a server end are those of its option engine, step by step.
+-- The option messages of a server end are those of its option engine, step by step.
 use Rattle.std.proofs.Common.{◌≡◌, ℕ, Bool, true, false, not, ◌&&◌, Option, None, Some, Result, Ok, Err, List, [], ◌∷◌, ◌++◌, map, take, refl, sym, ap, ◌∙◌}
 use Rattle.std.proofs.{Common.{if◌then◌else◌, append-nil, append_assoc}, lemmas.List.append_cancel_left}
 use Rattle.std.specs.Prelude.{option_to_list}
@@ -22,11 +22,11 @@ use Rattle.tn_server.specs.Terms.{Terms, terms, agreement, opening_options, opti
 use Rattle.tn_server.specs.Terms.{mask_told, asks_echo, asked_mask_of, wants_echo, options_with_echo, chars_after}
 use Rattle.tn_server.proofs.lemmas.Leading.{stands, says_as, stands_all, says_all}
 
--- a server's options and those of its client, and the words that are on their way to each
+-- a server's options and those of its client, and the messages that are on their way to each
 abbrev pub pair : Options → Options → List (Verb × ℕ) → List (Verb × ℕ) → EnginePair
 pair here there to_here to_there = record { here = here; there = there; to_here = to_here; to_there = to_there }
 
--- WHAT IS NO OPTION WORD
+-- ITEMS THAT ARE NO OPTION MESSAGE
 none_in : (xs ys : List Item) → words_in xs ≡ [] → words_in ys ≡ [] → words_in (xs ++ ys) ≡ []
 none_in xs ys a b = words_in-append xs ys ∙ ap (λ (t : List (Verb × ℕ)). t ++ words_in ys) a ∙ b
 
@@ -59,7 +59,7 @@ ga_none : (b : Bool) → words_in (if b then Cmd Ga ∷ [] else []) ≡ []
 ga_none true = refl
 ga_none false = refl
 
--- THE SERVER'S WORD FOR ECHO is a wish
+-- THE SERVER'S MESSAGE FOR ECHO is a request
 pub asked_in : (r : Result (Option (Verb × ℕ)) AskFault) → words_in (asked_word_items r) ≡ option_to_list (asked_word r)
 asked_in (Ok said) = words_in-word said
 asked_in (Err fault) = refl
@@ -79,7 +79,7 @@ by_words f c t o ed set =
     none_first (new_table_items (linemode t.options) (linemode o) c) _ (table_none (linemode o && not (linemode t.options)) c)
     ∙ none_first (mode_items (mask_told t o (wish_after f t.wish ed))) _ (words_in-mode (mask_told t o (wish_after f t.wish ed)))
 
--- what is said once the options are new
+-- the messages that are sent once the options are new
 by_moves : (f : Flags) (c : Characters) (t : Terms) (o there : Options) (ed : Option Editing) (set : Bool) (ws vs : List (Verb × ℕ))
     → Moves (pair o there ws vs)
     (pair (options_with_echo (asks_echo t.options o (mask_told t o (wish_after f t.wish ed)) set) (wants_echo (asked_mask_of o (wish_after f t.wish ed)) f) o)
@@ -91,7 +91,7 @@ by_moves f c t o there ed set ws vs =
     let m = echo_moves due wanted o there ws vs in
     (m.0, m.1 ∙ ap (λ (x : List (Verb × ℕ)). pair (options_with_echo due wanted o) there ws (vs ++ x)) (sym (by_words f c t o ed set)))
 
--- AN ITEM: an option word is answered, and then the rest is said
+-- AN ITEM: an option message is answered, and then the rest is sent
 reply_moves : (o there : Options) (item : Item) (ws vs : List (Verb × ℕ))
     → Moves (pair o there (words_in (item ∷ []) ++ ws) vs) (pair (options_after o (got item)) there ws (vs ++ words_in (reply_items o (got item))))
 reply_moves o there (Neg verb option) ws vs = (
@@ -123,7 +123,7 @@ got_moves h item there ws vs =
           (append_assoc vs back later ∙ ap (λ (x : List (Verb × ℕ)). vs ++ x) (sym (got_words h item))),
     )
 
--- the first of some words
+-- the first of some messages
 cons_words : (item : Item) (items : List Item) (ws : List (Verb × ℕ)) → words_in (item ∷ items) ++ ws ≡ words_in (item ∷ []) ++ (words_in items ++ ws)
 cons_words item items ws = ap (λ (x : List (Verb × ℕ)). x ++ ws) (words_in-append (item ∷ []) items) ∙ append_assoc (words_in (item ∷ [])) (words_in items) ws
 
@@ -176,7 +176,7 @@ call_moves h (char_set func value) there ws vs is =
 call_moves h (echo_set on) there ws vs is = by_moves (flags (next h (echo_set on))) (chars h) (terms h) (options h) there None true ws vs
 call_moves h (mask_set mask) there ws vs is = quiet_call (options h) there (replies h (mask_set mask)) ws vs (mask_none mask)
 
--- THE OPENING WORDS are five wishes
+-- THE OPENING MESSAGES are five requests
 pub opening_leads : (there : Agree) → LeadTo agreement there (pair opening_options (new_options there) [] (words_in opening))
 unfolding new_options options_after_wish answer_to cell
 opening_leads there = record {

@@ -1,5 +1,5 @@
--- What the core does with a message keeps whatever keys, new lines, sizes, commands and items keep, of the history whose replies
--- go to the network.
+-- The core keeps, at a message, each fact that keys, new lines, sizes, commands and items keep, of the
+-- history whose replies go to the network.
 use Rattle.std.proofs.Common.{◌≡◌, ℕ, Bool, true, false, Option, Some, None, List, [], ◌∷◌, ◌++◌, refl, sym, ap, ◌∙◌, subst, append_assoc}
 use Rattle.tn_client.proofs.lemmas.Histories.{items-gets}
 use Rattle.tn_client.specs.Events as events
@@ -78,7 +78,7 @@ module _ (T : History → Type 0) (said : List Item) (s : ClientKeeps T said) wh
     tied = subst T (sym e) (sent_tied c.progress.closed c.sent c.history later t.latest t.tied step);
   }
 
-  -- it did not
+  -- the history stood still
   stood : (c new : Run) → new.sent ≡ c.sent → new.history ≡ c.history → (new.progress.closed ≡ false → c.progress.closed ≡ false) → ClientAt T c
       → ClientAt T new
   stood c new e f g t = record { latest = λ o. e ∙ t.latest (g o) ∙ sym f; tied = subst T (sym e) t.tied }

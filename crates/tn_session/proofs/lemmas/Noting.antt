@@ -21,7 +21,7 @@ module _ {R M : Type 0} (turns : R → M → R → Type 0) (says : R → List �
   nothing_more [] p q off r = refl
   nothing_more (s ∷ ss) p q off r = ap (λ (l : List ℕ). l ++ total ss) (r.1.idle off) ∙ nothing_more ss r.0 q (r.1.stays off) r.2
 
-  -- what is written by now is what is said by now, or the first of it, and nothing has any effect any more
+  -- the bytes written so far are those sent so far, or the first of them, and nothing has any effect any more
   abbrev pub IsUpTo : R → List ℕ → Type 0
   IsUpTo p by_now = IsPrefixOf by_now (says p) × ((by_now ≡ says p) ⊎ (is_over p ≡ true))
 
@@ -43,7 +43,7 @@ module _ {R M : Type 0} (turns : R → M → R → Type 0) (says : R → List �
   pub steps_on : (p r : R) (s : M × List ℕ) (by_now : List ℕ) → IsStep turns says is_over is_whole p s r → IsUpTo p by_now → IsUpTo r (by_now ++ s.1)
   steps_on p r s by_now step up = (begins p r s by_now step up.0 up.1, ends p r s by_now step up.1 (is_whole s.0) refl)
 
-  -- all that was ever written, where nothing has any effect any more
+  -- all that was ever written, if nothing has any effect any more
   pub whole_by : (ss : List (M × List ℕ)) (p q : R) (written by_now : List ℕ) → Steps p ss q → written ≡ by_now ++ total ss
       → ((by_now ≡ says p) ⊎ (is_over p ≡ true)) → (by_now ≡ says p) ⊎ (by_now ≡ written)
   whole_by ss p q written by_now r is (inl e) = inl e
@@ -80,7 +80,7 @@ one_note came n x wrote took is = sym (λ i. exchange_of came (record { took = t
 both_parts : {A : Type 0} (a b : A) (us vs : List A) → a ∷ us ≡ b ∷ vs → (a ≡ b) × (us ≡ vs)
 both_parts a b us vs e = (cc, cc)
 
--- what was noted of these mails are the steps
+-- the notes of these messages are the steps
 pub same_steps : {M K : Type 0} (of_step : M → K) (of_mail : Mail → K) (brings : K → List ℕ) (ss : List (M × List ℕ)) (notes : List Note) (mails : List Mail)
     → map (λ s. of_step s.0) ss ≡ map of_mail mails → map (λ n. n.took) notes ≡ map (λ x. Some x) mails → map (λ n. n.wrote) notes ≡ map (λ s. s.1) ss
     → map (λ s. record { read = brings (of_step s.0); wrote = s.1 }) ss ≡ map (exchange_of (λ x. brings (of_mail x))) notes

@@ -1,9 +1,9 @@
--- A thread that reads, where no job says anything of its reader.
+-- A thread that reads, if no job sends text for its reader.
 use Rattle.std.proofs.Common.{◌≡◌, ◌≢◌, ℕ, Bool, true, List, [], ◌∷◌, ◌++◌, Option, None, ap, ◌∙◌, ◌⊎◌, ⊎_elim, inl, inr, length}
 use Rattle.tn_cores.specs.{declared.messages.Message.{Message, TheVariants.Left}, streams.{Foretelling.Failures, Known.KnownReader}}
 use Rattle.tn_session.specs.workers.{Reader.Closes, Reading.{IsEnding, IsReadCause}}
 
--- after its pieces comes how the reading ended, and then Left, or Left alone
+-- the messages after its pieces: how the reading ended, and then Left, or only Left
 abbrev pub PlainlyCloses : Bool → List (List ℕ) → Option (List ℕ) → Option Failures → List Message → Type 0
 PlainlyCloses may_stop pieces left foretold close =
     ((last : Message) × (IsEnding last left × IsReadCause foretold (length pieces) last) × (close ≡ last ∷ Left ∷ []))

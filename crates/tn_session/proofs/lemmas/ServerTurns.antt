@@ -1,4 +1,4 @@
--- What the terminal does with a message keeps whatever its kinds of events keep.
+-- The terminal keeps, at a message, each fact that its kinds of events keep.
 use Rattle.std.proofs.Common.{◌≡◌, ℕ, Bool, true, false, List, [], ◌∷◌, ◌++◌, ◌&&◌, Option, Some, None, refl, sym, ap, ◌∙◌, subst, append_assoc, length}
 use Rattle.tn_discipline.specs.declared.reads.Entry.{Entry}
 use Rattle.tn_jobs.specs.declared.verdicts.Verdict.{Verdict}
@@ -11,7 +11,7 @@ use Rattle.tn_cores.specs.server.Run.{echo_by, echoed, turn_echo, is_end, show, 
 use Rattle.tn_cores.specs.declared.messages.Message.{Message, TheVariants.{Piece, HangUp, ReadFailed, Take, Said, Refused, Left, Resized, Asked}}
 use Rattle.tn_cores.specs.declared.server.messages.ServerMark.TheVariants as mark
 
--- kept by each event of a terminal, where the items that come begin these
+-- kept by each event of a terminal, if the items that come begin these
 pub record ServerKeeps (T : History → Type 0) (said : List Item) : Type 0 where
   pub comes : (h : History) (x : Item) → IsPrefixOf (items h ++ x ∷ []) said → T h → T (next h (got x))
   pub takes : (h : History) → T h → T (next h took)

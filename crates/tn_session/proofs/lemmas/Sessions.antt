@@ -25,7 +25,7 @@ use Rattle.tn_cores.specs.server.Marks as term
 use Rattle.tn_cores.specs.server.Run as term_run
 use Rattle.tn_cores.specs.declared.server.messages.ServerMark as term_mark
 
--- what is spelled grows with its items
+-- a spelling grows with its items
 spells_grow : (xs ys : List Item) → IsPrefixOf xs ys → IsPrefixOf (spells xs) (spells ys)
 spells_grow xs ys p = (spells p.0, sym (spells-append xs p.0) ∙ ap spells p.1)
 
@@ -51,7 +51,7 @@ finished turns brings says first messages last written steps is goes = record {
   writes = sym (wrote_all turns brings says written steps _ _ goes);
 }
 
--- the same of a transcript that is there
+-- the bytes that are sent, of a transcript that is there
 abbrev saying : {R M : Type 0} (turns : R → M → R → Type 0) (brings : M → List ℕ) (says : R → List ℕ) (first : R) (messages : List M) (last : R)
     (written : List ℕ) (transcript : List Exchange) → Transcribes turns brings says first messages last written transcript
     → Transcript turns brings says first messages last written
@@ -107,7 +107,7 @@ server_transcript first marked last written unwritten r said =
       later.2,
     )
 
--- of a transcript that is there
+-- a transcript of the server that is there
 abbrev pub server_said : (first : term_run.Run) (marked : List (Message × term_mark.ServerMark)) (last : term_run.Run) (written : List ℕ)
     (transcript : List Exchange)
     → Transcribes of_server.OpensOrTurns of_server.brings of_server.says first (None ∷ map (λ m. Some m) marked) last written transcript
@@ -152,7 +152,7 @@ client_transcript width height limit marked last written unwritten r said =
     (record { is = record { said = ([], refl); written = (written, refl) }; whole = inl refl }) in
     finished core.Turns of_client.brings of_client.says first marked last written later.0 later.1 later.2
 
--- of a transcript that is there
+-- a transcript of the client that is there
 abbrev pub client_said : (width height limit : ℕ) (marked : List (Told × core_mark.ClientMark)) (last : core_run.Run) (written : List ℕ)
     (transcript : List Exchange)
     → Transcribes core.Turns of_client.brings of_client.says (core_run.start width height limit) marked last written transcript
@@ -164,7 +164,7 @@ pub client_reads : (first : core_run.Run) (marked : List (Told × core_mark.Clie
     (t : ClientTranscript first marked last written) → all_read t.transcript ≡ brought origin.Net (map (λ m. m.0) marked)
 client_reads first marked last written t = t.reads ∙ brings_brought marked
 
--- what was read of what a reader gives
+-- the bytes that were read, of those that a reader gives
 pub as_read : (given : Option (List ℕ)) (bytes all : List ℕ) → all ≡ bytes → ReadsPrefix given bytes → ReadsPrefix given all
 as_read given bytes all e r = subst (λ (l : List ℕ). ReadsPrefix given l) (sym e) r
 
@@ -210,7 +210,7 @@ server_stepped begin last steps front goes up =
     seconds [] = refl
     seconds (s ∷ ss) = ap (λ (l : List Exchange). record { read = bytes_in s.0.0; wrote = s.1 } ∷ l) (seconds ss)
 
--- a client says nothing at first
+-- a client sends nothing at first
 pub client_stepped : (begin last : core_run.Run) (steps : List ((Told × core_mark.ClientMark) × List ℕ))
     → FoldsTo (IsStep core.Turns cores.says cores.is_over cores.is_marked_written) begin steps last → cores.says begin ≡ []
     → Transcribes core.Turns of_client.brings of_client.says begin (map (λ s. s.0) steps) last (total steps)

@@ -1,4 +1,4 @@
--- Each run has its transcript, whatever of what it says was written.
+-- Each run has its transcript, whichever part of what it sends was written.
 use Rattle.std.proofs.Common.{◌≡◌, ◌⊎◌, inl, inr, ℕ, List, [], ◌∷◌, ◌++◌, refl, sym, ap, ◌∙◌, subst, map, flat_map, append_assoc, append-nil}
 use Rattle.std.proofs.lemmas.List.{append_cancel_left}
 use Rattle.std.specs.List.{FoldsTo}
@@ -18,7 +18,7 @@ one_longer : {A : Type 0} (x y : A) (xs ys : List A) → x ≡ y → IsPrefixOf 
 one_longer x y xs ys e (inl r) = inl (r.0, λ i. e i ∷ r.1 i)
 one_longer x y xs ys e (inr r) = inr (r.0, λ i. sym e i ∷ r.1 i)
 
--- of two prefixes of one list, one begins the other
+-- one of two prefixes of one list begins the other
 pub compare : {A : Type 0} (xs ys zs : List A) → IsPrefixOf xs zs → IsPrefixOf ys zs → IsPrefixOf xs ys ⊎ IsPrefixOf ys xs
 compare [] ys zs p q = inl (ys, refl)
 compare (x ∷ xs) [] zs p q = inr (x ∷ xs, refl)
@@ -44,7 +44,7 @@ pub all_wrote-append : (xs ys : List Exchange) → all_wrote (xs ++ ys) ≡ all_
 all_wrote-append [] ys = refl
 all_wrote-append (x ∷ xs) ys = ap (λ (l : List ℕ). x.wrote ++ l) (all_wrote-append xs ys) ∙ sym (append_assoc x.wrote (all_wrote xs) (all_wrote ys))
 
--- what is written by now: of what is said by now, and of all that was ever written
+-- the bytes written so far: of those sent so far, and of all that was ever written
 pub record IsWritten (says all by_now : List ℕ) : Type 0 where
   pub said : IsPrefixOf by_now says
   pub written : IsPrefixOf by_now all
@@ -78,7 +78,7 @@ module _ {R M : Type 0} (turns : R → M → R → Type 0) (brings : M → List 
   abbrev Steps : List ℕ → Point R → List M → Point R → Type 0
   Steps written p ms q = (steps : List (M × Exchange)) × (map (λ s. s.0) steps ≡ ms) × FoldsTo (IsExchange turns brings says written) p steps q
 
-  -- all that follows, from what is written by now
+  -- all that follows, from the bytes written so far
   pub transcribes_on : (ms : List M) (p last : R) (written by_now : List ℕ) → Good p → FoldsTo turns p ms last → IsPrefixOf written (says last)
       → IsUpToDate (says p) written by_now
       → Steps written (record { run = p; wrote = by_now }) ms (record { run = last; wrote = written })
@@ -101,13 +101,13 @@ module _ {R M : Type 0} (turns : R → M → R → Type 0) (brings : M → List 
       )
 
 module _ {R M : Type 0} (turns : R → M → R → Type 0) (brings : M → List ℕ) (says : R → List ℕ) where
-  -- what the steps read is what the messages bring
+  -- the bytes that the steps read are those that the messages bring
   pub reads_all : (written : List ℕ) (steps : List (M × Exchange)) (p q : Point R) → FoldsTo (IsExchange turns brings says written) p steps q
       → all_read (map (λ s. s.1) steps) ≡ flat_map brings (map (λ s. s.0) steps)
   reads_all written [] p q r = refl
   reads_all written (s ∷ steps) p q r = λ i. r.1.read i ++ reads_all written steps r.0 q r.2 i
 
-  -- and what they wrote comes to all that was written
+  -- the bytes that the steps wrote come to all that was written
   pub wrote_all : (written : List ℕ) (steps : List (M × Exchange)) (p q : Point R) → FoldsTo (IsExchange turns brings says written) p steps q
       → q.wrote ≡ p.wrote ++ all_wrote (map (λ s. s.1) steps)
   wrote_all written [] p q r = sym (ap (λ (x : Point R). x.wrote) r) ∙ sym (append-nil p.wrote)

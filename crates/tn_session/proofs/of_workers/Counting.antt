@@ -73,7 +73,7 @@ paid_ends who told last left text v w a b ending is taken old says mails e =
     (λ job words. omega (arith, no_piece last left ending)) in
     as_many (pieces_among mails) (length (pieces_in told)) a b (counted who told (text ++ last ∷ Left ∷ []) w mails whole none e) taken
 
--- it was stopped after a piece
+-- the reading was stopped after a piece
 pub paid_stops : (who : Sender) (told : List Telling) (p : List ℕ) (v w u : View) (a b d : Option CreditSeat) → HaveTaken (length (pieces_in told)) a b
     → HaveTaken 1 b d → v ≡ sends who (told_messages told) → Says who (Piece p) v w → Says who Left w u → (mails : List Mail) → u ≡ sender who mails
     → HaveTaken (pieces_among mails) a d
@@ -104,7 +104,7 @@ count_steps : (ss : List (JobId × Reaction)) → steps_among (map (mail Back) (
 count_steps [] = refl
 count_steps (s ∷ ss) = omega (arith, count_steps ss)
 
--- it used one for each step that it said
+-- the thread used one credit for each step that it sent
 pub used_for : (ss : List (JobId × Reaction)) (close : List Message) (v : View) (a b : StepCredits) → HaveUsed (length ss) a b
     → v ≡ sender Back (map (mail Back) (map step_said ss ++ close)) → steps_among (map (mail Back) close) ≡ 0 → (mails : List Mail) → v ≡ sender Back mails
     → HaveUsed (steps_among mails) a b

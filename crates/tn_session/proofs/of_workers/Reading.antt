@@ -1,4 +1,4 @@
--- What a thread that reads took from its reader.
+-- The bytes that a thread that reads took from its reader.
 use Rattle.std.proofs.Common.{◌≡◌, ℕ, ◌+◌, List, [], ◌∷◌, ◌++◌, Option, Some, None, sym, ap, ◌∙◌, append_assoc, append-nil, length, length-append, arith}
 use Rattle.std.proofs.lemmas.List.Folds.{concat-append}
 use Rattle.std.specs.{List.concat, Io.KnownBytes.{Consumes, Keeps}}

@@ -1,9 +1,9 @@
--- The seat of one that may be told to stop, before and after it is looked at.
+-- The seat of a thread that may be asked to stop, before and after a look at it.
 use Rattle.std.proofs.Common.{◌≡◌, Bool, true, Option, Some, None, refl, sym, ap, ◌∙◌, subst}
 use Rattle.crossbeam_channel.specs.{Claims.{view, IsSeatAt}, Ends.receives_on}
 use Rattle.tn_session.specs.{workers.Stops.{StopHand, StopsStay, TakesStop, has_stopped, took_some}, declared.workers.stops.StopSeat.StopSeat}
 
--- after it was looked at
+-- the seat after it was looked at
 pub seat_stays : (old : Option StopSeat) (seat new : StopSeat) (took : Bool) → old ≡ Some seat → new.from ≡ seat.from → IsSeatAt (receives_on new.from) new.pass
     → StopsStay old old → TakesStop took (view seat.pass) (view new.pass) → StopsStay old (Some new)
 seat_stays old seat new took e from at stays takes =

@@ -1,4 +1,4 @@
--- Where a thread that reads stands, between two of its reads.
+-- The state of a thread that reads, between two of its reads.
 use Rattle.std.proofs.Common.{◌≡◌, ℕ, ◌+◌, Bool, true, All, Option, Some, None, List, [], ◌∷◌, ◌++◌, length, refl, sym, subst, ◌∙◌, ◌⊎◌, ⊎_elim}
 use Rattle.std.proofs.lemmas.List.Elements.{All-nil, All-push}
 use Rattle.std.specs.{Io.KnownBytes.Consumes, List.concat}
@@ -14,7 +14,7 @@ use Rattle.tn_cores.specs.{declared.messages.Message.{Message, TheVariants.{Piec
 use Rattle.tn_cores.specs.{streams.{Beside.TellsList, Known.KnownTyping}, declared.streams.{control.Control.Control, window.WindowSize.WindowSize}}
 use Rattle.tn_cores.proofs.lemmas.streams.Foretelling.{come_none, come_passed}
 
--- After so many reads: what the thread told of what its reader gave, and the credits that it took.
+-- After this number of reads: what the thread sent of what its reader gave, and the credits that it took.
 pub record HasTold (who : Sender) (old now : KnownTyping) (calls : ℕ) (a b : Option CreditSeat) (v : View) : Type 0 where
   pub told : List Telling
   pub consumed : Consumes old.reader.bytes now.reader.bytes (concat (pieces_in told))
@@ -26,7 +26,7 @@ pub record HasTold (who : Sender) (old now : KnownTyping) (calls : ℕ) (a b : O
   pub controls : TellsList old.controls (controls_in told) now.controls
   pub words : now.reader.words ≡ old.reader.words
 
--- a size was told, or none, and a control function, or none
+-- a size was sent, or none, and a control function, or none
 pub told_beside : (who : Sender) (old now new : KnownTyping) (calls : ℕ) (a b : Option CreditSeat) (v w : View) → HasTold who old now calls a b v
     → SaysBeside who now new v w → HasTold who old new calls a b w
 told_beside who old now new calls a b v w h says =
@@ -48,7 +48,7 @@ told_beside who old now new calls a b v w h says =
       words = says.words ∙ h.words;
     }
 
--- a piece was read, paid for and told
+-- a piece was read, paid for and sent
 pub told_one : (who : Sender) (old now new : KnownTyping) (calls : ℕ) (p : List ℕ) (a b d : Option CreditSeat) (v w : View) → HasTold who old now calls a b v
     → Consumes now.reader.bytes new.reader.bytes p → IsPiece p → HasCome 1 1 now.reader.failures new.reader.failures → new.reader.sizes ≡ now.reader.sizes
     → new.controls ≡ now.controls → new.reader.words ≡ now.reader.words → HaveTaken 1 b d → Says who (Piece p) v w → HasTold who old new (calls + 1) a d w
@@ -87,7 +87,7 @@ told_none who old now new calls a b v h gives come same alike still = record {
   words = still ∙ h.words;
 }
 
--- the end that is told is the one that came, or there was no memory for the words before it
+-- the end that is sent is the one that came, or there was no memory for the last words before it
 ends_as : (last end : Message) (left : Option (List ℕ)) → (end ≡ last) ⊎ (end ≡ Refused) → IsEnding last left → IsEnding end left
 ends_as last end left is ending =
     ⊎_elim (λ e. subst (λ (m : Message). IsEnding m left) (sym e) ending) (λ e. subst (λ (m : Message). IsEnding m left) (sym e) tt) is
@@ -114,7 +114,7 @@ told_end who job may_stop old now new calls a b last v w h gives ending cause st
     (subst (λ (ws : List (List ℕ)). SaysLast job ws s.end s.said) (still ∙ h.words) s.lasts)
     h.sent h.small (now.reader.sizes, h.sizes) (now.controls, h.controls) s.says
 
--- it was given up after as many reads as are made
+-- the reading was given up after as many reads as are made
 pub told_all : (who : Sender) (job : Option JobId) (may_stop : Bool) (old now : KnownTyping) (calls : ℕ) (a b : Option CreditSeat) (v w : View)
     → calls ≡ max_reads → HasTold who old now calls a b v → SaysEnd who job now.reader.words ReadFailed v w → TypingSends who job may_stop old w
 told_all who job may_stop old now calls a b v w is h s =
@@ -126,7 +126,7 @@ told_all who job may_stop old now calls a b v w is h s =
     (subst (λ (ws : List (List ℕ)). SaysLast job ws s.end s.said) h.words s.lasts)
     h.sent h.small (now.reader.sizes, h.sizes) (now.controls, h.controls) s.says
 
--- it was stopped after a piece
+-- the reading was stopped after a piece
 pub told_stop : (who : Sender) (job : Option JobId) (may_stop : Bool) (old now new : KnownTyping) (calls : ℕ) (p : List ℕ) (a b : Option CreditSeat)
     (v w u : View)
     → HasTold who old now calls a b v → may_stop ≡ true → Consumes now.reader.bytes new.reader.bytes p → IsPiece p → Says who (Piece p) v w → Says who Left w u
@@ -138,7 +138,7 @@ told_stop who job may_stop old now new calls p a b v w u h may gives fits one tw
 
 -- WHAT WAS PAID
 
--- as many credits as pieces, where the reading ended
+-- the thread has taken as many credits as pieces, if the reading ended
 pub paid_end : (who : Sender) (job : Option JobId) (words : List (List ℕ)) (old now : KnownTyping) (calls : ℕ) (a b : Option CreditSeat) (last : Message)
     (left : Option (List ℕ)) (v w : View)
     → HasTold who old now calls a b v → IsEnding last left → SaysEnd who job words last v w → (mails : List Mail) → w ≡ sender who mails
@@ -146,7 +146,7 @@ pub paid_end : (who : Sender) (job : Option JobId) (words : List (List ℕ)) (ol
 paid_end who job words old now calls a b last left v w h ending s =
     paid_ends who h.told s.end left s.said v w a b (ends_as last s.end left s.is ending) (is_said job words s.end s.said s.lasts) h.taken h.sent s.says
 
--- and where it was stopped
+-- the thread has taken as many credits as pieces, if the reading was stopped
 pub paid_stop : (who : Sender) (old now : KnownTyping) (calls : ℕ) (p : List ℕ) (a b d : Option CreditSeat) (v w u : View) → HasTold who old now calls a b v
     → HaveTaken 1 b d → Says who (Piece p) v w → Says who Left w u → (mails : List Mail) → u ≡ sender who mails → HaveTaken (pieces_among mails) a d
 paid_stop who old now calls p a b d v w u h paid one two = paid_stops who h.told p v w u a b d h.taken paid h.sent one two

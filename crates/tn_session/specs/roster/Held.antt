@@ -1,16 +1,19 @@
--- Which numbers a roster has given to sessions, and how many sessions there may be.
+-- The numbers that a roster has given to sessions, and the most sessions at once.
 use Rattle.std.specs.Prelude.{◌≡◌, ◌≢◌, ◌≤◌, ◌+◌, ◌⊎◌, ⊤, ℕ, Bool, IsTrue, IsFalse, Option, None, List}
 use Rattle.std.specs.Prelude.{count_by, is_some, slice_index_or}
 
+-- the sessions of a roster
 pub record Held : Type 0 where
-  -- how many numbers may be held
+  -- the most numbers that may be held
   pub limit : ℕ
   -- at each number, whether it is held
   pub numbers : List (Option ⊤)
 
+-- the number is held
 abbrev pub is_held : Held → ℕ → Bool
 is_held roster number = is_some (slice_index_or roster.numbers number None)
 
+-- the number of numbers that are held
 abbrev pub held_count : Held → ℕ
 held_count roster = count_by is_some roster.numbers
 

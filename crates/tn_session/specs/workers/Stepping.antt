@@ -1,4 +1,4 @@
--- What the thread of the background jobs sends.
+-- The messages of the thread of the background jobs.
 use Rattle.std.specs.Prelude.{◌≡◌, ℕ, ◌==◌, Bool, true, IsTrue, false, Option, Some, None, List, [], ◌∷◌}
 use Rattle.std.specs.{Prelude.{◌++◌, ◌⊎◌, map, if◌then◌else◌}, List.FoldsTo}
 use Rattle.tn_jobs.specs.{Judging.judged, declared.{held_jobs.JobId.JobId, reactions.Reaction.Reaction}}
@@ -13,7 +13,7 @@ use Rattle.tn_cores.specs.declared.messages.Message.TheVariants.{Said, Refused, 
 abbrev pub step_said : JobId × Reaction → Message
 step_said s = Said s.0 s.1.text s.1.after
 
--- what the job of this number did, in order
+-- the reactions of the job of this number, in order
 abbrev pub reactions_of : ℕ → List (JobId × Reaction) → List Reaction
 reactions_of id [] = []
 reactions_of id (s ∷ ss) = if s.0.0 == id then s.1 ∷ reactions_of id ss else reactions_of id ss
@@ -24,6 +24,7 @@ abbrev pub Steps : {J : Type 0} → (ℕ → J → Type 0) → (J → Reaction �
 Steps {J} began steps said id =
     (first : J) × (last : J) × began id first × FoldsTo steps first (reactions_of id said) last
 
+-- the number is among these
 abbrev pub IsIn : ℕ → List ℕ → Type 0
 IsIn id [] = ⊥
 IsIn id (other ∷ ids) = (id ≡ other) ⊎ IsIn id ids
@@ -33,12 +34,14 @@ abbrev pub AreBy : List ℕ → List (JobId × Reaction) → Type 0
 AreBy ids [] = Unit {0}
 AreBy ids (s ∷ ss) = IsIn s.0.0 ids × AreBy ids ss
 
+-- the job is in the background
 abbrev pub is_background : JobState → Bool
 is_background job.Background = true
 is_background job.Foreground = false
 is_background (job.Stopped why) = false
 is_background job.Ended = false
 
+-- the verdict leaves the job in the background
 abbrev pub leaves_in_background : Option Verdict → Bool
 leaves_in_background None = false
 leaves_in_background (Some v) = is_background v.next
@@ -58,11 +61,12 @@ pub record BackJobs : Type 0 where
   pub ids : List ℕ
   pub tostop : Bool
 
--- the one that stands first goes, and stands last where it stays in the background
+-- the first one goes, and comes last if it stays in the background
 abbrev pub turned : Bool → ℕ → List ℕ → List ℕ
 turned true id ids = ids ++ id ∷ []
 turned false id ids = ids
 
+-- the first job of the queue made this step, which leads to the new queue
 abbrev pub TakesItsTurn : Bool → List ℕ → JobId × Reaction → List ℕ → Type 0
 TakesItsTurn tostop [] s new = ⊥
 TakesItsTurn tostop (id ∷ ids) s new = (s.0.0 ≡ id) × (new ≡ turned (stays tostop s.1) id ids)
@@ -71,13 +75,13 @@ TakesItsTurn tostop (id ∷ ids) s new = (s.0.0 ≡ id) × (new ≡ turned (stay
 abbrev pub StepInTurn : Bool → List ℕ → List (JobId × Reaction) → List ℕ → Type 0
 StepInTurn tostop ids said left = FoldsTo (TakesItsTurn tostop) ids said left
 
--- memory ran out for the job of this number, where its steps had led it
+-- memory ran out for the job of this number, in the state to which its steps had led it
 abbrev pub IsRefused : {J : Type 0} → (ℕ → J → Type 0) → JobActs J → List (JobId × Reaction) → ℕ → Type 0
 IsRefused {J} began acts said id =
     (first : J) × (last : J) × began id first × FoldsTo acts.steps first (reactions_of id said) last
     × acts.refuses last None
 
--- why it left: no job runs any more; or it was told to stop, or memory ran out for the one whose turn it was
+-- why it left: no job runs any more; or it was asked to stop, or memory ran out for the one whose turn it was
 abbrev pub LeavesFor : {J : Type 0} → (ℕ → J → Type 0) → JobActs J → Bool → List (JobId × Reaction)
     → List Message
     → List ℕ → Type 0
@@ -86,8 +90,8 @@ LeavesFor {J} began acts stopped said close (id ∷ ids) =
     ((close ≡ Left ∷ []) × IsTrue stopped)
     ⊎ ((close ≡ Refused ∷ Left ∷ []) × IsRefused {J = J} began acts said id)
 
--- of these jobs: each step is one of theirs, those of each go through its states, no job makes one after it
--- was judged out of the background, they step in turn, and then comes the close, for its cause
+-- the steps of these jobs: each step is one of theirs, those of each go through its states, no job makes one
+-- after it was judged out of the background, they step in turn, and then comes the close, for its cause
 abbrev pub AreSteps : {J : Type 0} → (ℕ → J → Type 0) → JobActs J → BackJobs → Bool → View → Type 0
 AreSteps {J} began acts jobs stopped v =
     (said : List (JobId × Reaction)) × (close : List Message)

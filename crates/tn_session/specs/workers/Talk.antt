@@ -1,4 +1,4 @@
--- What the desk says: it asks, and answers each entry that it gets.
+-- The messages of the desk: it asks, and answers each entry that it gets.
 use Rattle.std.specs.Prelude.{◌≡◌, List, Option, Some, None, [], ◌∷◌, ◌++◌, ◌⊎◌, map, flat_map}
 use Rattle.std.specs.List.{FoldsTo}
 use Rattle.tn_discipline.specs.declared.reads.Entry.{Entry}
@@ -13,6 +13,7 @@ use Rattle.tn_session.specs.workers.{Acts.JobActs, EntryChannel.EntryHand, Mailb
 abbrev pub turn_said : JobId → Entry × Reaction → List Message
 turn_said id t = Take ∷ Said id t.1.text t.1.after ∷ []
 
+-- the messages of the foreground job for these entries and answers
 abbrev pub turns_said : JobId → List (Entry × Reaction) → List Message
 turns_said id turns = flat_map (turn_said id) turns
 
@@ -21,18 +22,21 @@ abbrev pub Answers : {J : Type 0} → (J → Entry → Reaction → J → Type 0
     → Type 0
 Answers reacts s turns t = FoldsTo (λ a x b. reacts a x.0 x.1 b) s turns t
 
+-- the entries that were answered
 abbrev pub entries_of : List (Entry × Reaction) → List (Option Entry)
 entries_of turns = map (λ t. Some t.0) turns
 
+-- the last answer ends the job
 abbrev pub ends_done : List (Entry × Reaction) → Type 0
 ends_done [] = ⊥
 ends_done (t ∷ []) = t.1.after ≡ Done
 ends_done (t ∷ u ∷ us) = ends_done (u ∷ us)
 
+-- the view of the desk that has sent these messages
 abbrev pub desk_sends : List Message → View
 desk_sends messages = sender Desk (map (mail Desk) messages)
 
--- how it ended: the end came, the job was done, or memory ran out for it at an entry
+-- the end of the talk: the end came, the job was done, or memory ran out for it at an entry
 abbrev pub Closes : JobId → (Entry → Type 0) → List (Entry × Reaction) → View → EntryHand → Type 0
 Closes id refuses turns v w =
     ((v ≡ desk_sends (turns_said id turns ++ Take ∷ Left ∷ [])) × (w ≡ taker (entries_of turns ++ None ∷ [])))
@@ -44,7 +48,8 @@ Closes id refuses turns v w =
 abbrev pub IsJob : {J : Type 0} → J → J → Type 0
 IsJob job other = other ≡ job
 
--- it asked before each thing that it took, and answered each entry from the job's state, which began so
+-- the job's thread asked before each thing that it took, and answered each entry from the job's state, which
+-- began so
 abbrev pub IsTalk : {J : Type 0} → JobId → (J → Type 0) → JobActs J → View → EntryHand → Type 0
 IsTalk {J} id began acts v w =
     (turns : List (Entry × Reaction)) × (first : J) × (last : J)

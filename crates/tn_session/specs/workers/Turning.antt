@@ -6,10 +6,12 @@ use Rattle.tn_session.specs.{workers.Acts.JobActs, declared.workers.back.{Runner
 use Rattle.tn_session.specs.declared.workers.back.Turn.TheVariants.{Idle, Refused, Did}
 use Rattle.tn_session.specs.workers.Stepping.{IsIn, AreBy, Steps, BackJobs, LeavesLast, reactions_of, stays}
 
+-- the numbers of these jobs
 abbrev pub ids_of : {J : Type 0} → List (Runner J) → List ℕ
 ids_of [] = []
 ids_of (r ∷ rs) = r.id.0 ∷ ids_of rs
 
+-- the jobs of this queue
 abbrev pub jobs_of : {J : Type 0} → List (Runner J) → List J
 jobs_of [] = []
 jobs_of (r ∷ rs) = r.job ∷ jobs_of rs
@@ -19,13 +21,16 @@ abbrev pub Holds : {J : Type 0} → List (Runner J) → ℕ → J → Type 0
 Holds [] id job = ⊥
 Holds (r ∷ rs) id job = ((id ≡ r.id.0) × (job ≡ r.job)) ⊎ Holds rs id job
 
+-- the queue as the thread's promise has it
 abbrev pub queue_of : {J : Type 0} → Bool → List (Runner J) → BackJobs
 queue_of tostop queue = record { ids = ids_of queue; tostop = tostop }
 
+-- no two of these numbers are equal
 abbrev pub AreApart : List ℕ → Type 0
 AreApart [] = Unit {0}
 AreApart (id ∷ ids) = (IsIn id ids → ⊥) × AreApart ids
 
+-- each of these jobs has done nothing yet
 abbrev pub EachFresh : {J : Type 0} → (J → Type 0) → List (Runner J) → Type 0
 EachFresh fresh [] = Unit {0}
 EachFresh fresh (r ∷ rs) = fresh r.job × EachFresh fresh rs
@@ -39,13 +44,14 @@ abbrev pub EachBegan : {J : Type 0} → (ℕ → J → Type 0) → List (Runner 
 EachBegan began [] = Unit {0}
 EachBegan began (r ∷ rs) = began r.id.0 r.job × EachBegan began rs
 
--- the job of this number has gone from where it began to this state
+-- the job of this number has gone from its first state to this one
 abbrev pub Chain : {J : Type 0} → (ℕ → J → Type 0) → (J → Reaction → J → Type 0) → List (JobId × Reaction) → ℕ
     → J
     → Type 0
 Chain {J} began steps said id job = (first : J) × began id first
     × FoldsTo steps first (reactions_of id said) job
 
+-- each job of the queue has gone, by its steps, from its first state to its present one
 abbrev pub EachRuns : {J : Type 0} → (ℕ → J → Type 0) → (J → Reaction → J → Type 0) → List ℕ
     → List (JobId × Reaction) → List (Runner J) → Type 0
 EachRuns began steps ids said [] = Unit {0}
@@ -57,11 +63,12 @@ abbrev pub AllStay : Bool → List Reaction → Type 0
 AllStay tostop [] = Unit {0}
 AllStay tostop (r ∷ rs) = IsTrue (stays tostop r) × AllStay tostop rs
 
--- and so of each job that is still in the queue
+-- each job that is still in the queue has stayed in the background by its steps
 abbrev pub EachStays : {J : Type 0} → Bool → List (JobId × Reaction) → List (Runner J) → Type 0
 EachStays tostop said [] = Unit {0}
 EachStays tostop said (r ∷ rs) = AllStay tostop (reactions_of r.id.0 said) × EachStays tostop said rs
 
+-- The queue after these steps: each job in it is where its steps led it, and each that is not has left.
 pub record Running {J : Type 0} (began : ℕ → J → Type 0) (steps : J → Reaction → J → Type 0) (tostop : Bool)
     (ids : List ℕ) (said : List (JobId × Reaction)) (queue : List (Runner J)) : Type 0 where
   pub by : AreBy ids said
@@ -88,7 +95,7 @@ pub record AdvancesQueue {J : Type 0} (steps : J → Reaction → J → Type 0) 
   pub step : steps runner.job reaction job
   pub left : new ≡ standing (stays tostop reaction) rest (record { id = id; job = job })
 
--- no job makes a step only where none runs; memory runs out for the first
+-- no job makes a step only if none runs; memory runs out for the first
 abbrev pub TakesTurn : {J : Type 0} → JobActs J → Bool → List (Runner J) → Turn → List (Runner J) → Type 0
 TakesTurn acts tostop old Idle new = old ≡ []
 TakesTurn {J} acts tostop old Refused new = (runner : Runner J) × (old ≡ runner ∷ new)

@@ -1,4 +1,4 @@
-//! What is noted of the results of a roster's calls.
+//! The notes about the results of a roster's calls.
 
 use crate::roster::RosterFault;
 use log::{Log, info};
@@ -6,8 +6,8 @@ use log::{Log, info};
 /// The target of these notes.
 const EVENT: &str = "roster";
 
-/// Notes, at level info, what became of a session that was to enter the roster: `accepted` and its
-/// number, `full`, `no memory` or `bad limit`. A note that can't be made or written is dropped.
+/// Notes, at level info, the fate of a session that was to enter the roster: `accepted` and its
+/// number, `full`, `no memory` or `bad limit`. A note that cannot be made or written is dropped.
 pub fn note<L: Log>(rt: &L, entered: &Result<usize, RosterFault>) {
     match entered {
         Ok(number) => info!(rt; target: EVENT, "accepted {}", number),
@@ -15,7 +15,7 @@ pub fn note<L: Log>(rt: &L, entered: &Result<usize, RosterFault>) {
     }
 }
 
-// What a refusal is noted as.
+// Returns the text as which a refusal is noted.
 fn refusal(fault: RosterFault) -> &'static str {
     match fault {
         RosterFault::Full => "full",

@@ -27,7 +27,7 @@ pub struct Runner<J> {
     pub job: J,
 }
 
-// Whether the job still runs in the background after this reaction.
+// Returns whether the job still runs in the background after this reaction.
 fn goes_on(has_text: bool, after: After, tostop: bool) -> bool
     ensures { result ≡ leaves_in_background (judged state.Background has_text after tostop) }
 {
@@ -46,7 +46,7 @@ fn is_background(job: JobState) -> bool
     }
 }
 
-// What became of the queue.
+// The outcome of a turn of the queue.
 #[derive(Drop)]
 enum Turn {
     // No job runs.
@@ -76,8 +76,8 @@ fn advance<J: Job>(queue: &mut VecDeque<Runner<J>>, alloc: Global, tostop: bool)
 }
 
 // tools/progress: proctype Back
-/// Runs the jobs in turn, each step for a credit, until none of them runs or it is told to stop. `None` where
-/// the other end of a channel is gone.
+/// Runs the jobs in turn, each step for a credit, until none of them runs or it is asked to stop.
+/// It returns `None` if the other end of a channel is gone.
 pub fn run_back<P: Post, J: Job, G: Gate>(
     post: &P,
     alloc: Global,

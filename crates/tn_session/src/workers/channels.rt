@@ -10,7 +10,7 @@ use crossbeam_channel::protocol::{Join, Lesson, Outcome, Protocol, Split};
 use crossbeam_channel::{Pass, RuledReceiver, RuledSender};
 use std::collections::LinkedList;
 
-/// What a pass knows: of each role that it has, the mails so far. No value of it is made.
+/// The facts of a pass: of each role that it has, the messages so far. No value of it is made.
 pub struct View {
     pub handled: Option<LinkedList<Mail>>,
     pub net: Option<LinkedList<Mail>>,
@@ -28,10 +28,10 @@ impl Protocol<Mail, View> for AllRoles {
     ghost first = { everyone };
 }
 
-/// What a pass of all roles learns.
+/// The facts that a pass of all roles gets.
 pub struct Knows;
 
-/// A mail is sent.
+/// The outcome of a call that sends a message.
 pub struct Sends;
 
 impl Outcome<Mail, View> for Sends {
@@ -42,7 +42,7 @@ impl Lesson<Mail, View> for Sends {
     ghost fact = { λ v items. Unit {0} };
 }
 
-/// A mail is received.
+/// The outcome of a call that receives a message.
 pub struct Handles;
 
 impl Outcome<Mail, View> for Handles {
@@ -108,7 +108,7 @@ pub type MailSender = RuledSender<Mail, View, AllRoles>;
 
 pub type MailReceiver = RuledReceiver<Mail, View, AllRoles>;
 
-/// A seat at the mailbox: where its holder sends, and the pass.
+/// A seat at the mailbox: the end at which its holder sends, and the pass.
 #[derive(Drop)]
 pub struct MailSeat {
     pub to: MailSender,

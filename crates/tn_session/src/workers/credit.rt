@@ -1,4 +1,4 @@
-//! A thread takes a credit for each piece that it sends, or for each step that it says.
+//! Credits: a thread takes one for each piece that it sends, or for each step that it sends.
 
 ghost use Rattle.std.specs.Prelude.{◌≡◌, IfSome};
 ghost use Rattle.crossbeam_channel.specs.{Claims.IsSeatAt, Ends.receives_on};
@@ -10,7 +10,7 @@ use crossbeam_channel::protocol::{Lesson, Outcome, Protocol, Split};
 use crossbeam_channel::{Pass, RuledReceiver, RuledSender};
 use std::collections::LinkedList;
 
-/// The leave to send one piece, or to say one step.
+/// The leave to send one piece, or one step.
 #[derive(Drop)]
 pub struct Credit;
 
@@ -66,14 +66,14 @@ pub type CreditSender = RuledSender<Credit, CreditTally, Freely>;
 
 pub type CreditReceiver = RuledReceiver<Credit, CreditTally, Freely>;
 
-/// The seat of the one that takes credits: where they come, and the pass.
+/// The seat of the thread that takes credits: the end at which they come, and the pass.
 #[derive(Drop)]
 pub struct CreditSeat {
     pub from: CreditReceiver,
     pub pass: CreditPass,
 }
 
-// Waits for a credit where any is wanted. `None` where the other end is gone.
+// Waits for a credit if any is wanted. It returns `None` if the other end is gone.
 pub(crate) fn take_credit<P: Post>(post: &P, credits: &mut Option<CreditSeat>) -> Option<()>
     requires seat { IsSeated credits.old }
     ensures seat { IsSeated credits.new }
@@ -85,8 +85,8 @@ pub(crate) fn take_credit<P: Post>(post: &P, credits: &mut Option<CreditSeat>) -
     }
 }
 
-/// What the thread of the background jobs needs for its steps: so many credits are left of those that it has
-/// at first, and the others come.
+/// The credits that the thread of the background jobs needs for its steps: the number that is left
+/// of those that it has at first, and the end at which the others come.
 #[derive(Drop)]
 pub struct StepCredits {
     pub left: u8,
@@ -94,7 +94,8 @@ pub struct StepCredits {
 }
 
 impl StepCredits {
-    // Uses one, and waits for it where none is left. `None` where the other end is gone.
+    // Uses one credit, and waits for it if none is left. It returns `None` if the other end is
+    // gone.
     pub(crate) fn take<P: Post>(&mut self, post: &P) -> Option<()>
         requires seat { IsSeatAt (receives_on self.old.seat.from) self.old.seat.pass }
         ensures seat { IsSeatAt (receives_on self.new.seat.from) self.new.seat.pass }

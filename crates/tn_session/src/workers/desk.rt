@@ -16,8 +16,9 @@ use tn_cores::{Gate, Message, Place};
 use tn_jobs::{After, Job, JobId, Reaction};
 
 // tools/progress: proctype Desk
-/// Asks for entries and lets the job answer them, until the end, a Done or out of memory. `None` where the
-/// other end of a channel is gone, or after 18,446,744,073,709,551,615 entries.
+/// Asks for entries and lets the job answer them, until the end, a Done or out of memory. It
+/// returns `None` if the other end of a channel is gone, or after 18,446,744,073,709,551,615
+/// entries.
 pub fn run_desk<P: Post, J: Job, G: Gate>(
     post: &P,
     alloc: Global,

@@ -9,7 +9,7 @@ pub type EntrySender = QueueSender<Option<Entry>>;
 
 pub type EntryReceiver = QueueReceiver<Option<Entry>>;
 
-/// The seat of the one that takes entries: where they come, and the pass.
+/// The seat of the thread that takes entries: the end at which they come, and the pass.
 #[derive(Drop)]
 pub struct EntrySeat {
     pub from: EntryReceiver,

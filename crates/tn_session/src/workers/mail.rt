@@ -1,8 +1,8 @@
-//! What the mailbox carries.
+//! The messages of the mailbox.
 
 use tn_cores::Message;
 
-/// Who sends a mail.
+/// The sender of a message.
 #[derive(Clone, Copy, PartialEq, Eq)]
 pub enum Sender {
     /// The thread that reads from the network.

@@ -1,4 +1,4 @@
-//! How a thread of a session sends, and takes what is sent to it.
+//! The calls by which a session's threads send and take.
 
 ghost use Rattle.std.specs.Prelude.{◌≡◌, ◌+◌, List, Option, [], ◌++◌, ◌∷◌, IfSome, length};
 ghost use Rattle.crossbeam_channel.specs.{Claims.{view, IsSeatAt}, Ends.{sends_on, receives_on}};
@@ -15,8 +15,8 @@ use crate::workers::stops::StopSeat;
 use tn_cores::Message;
 use tn_discipline::Entry;
 
-/// The calls by which a thread sends and takes. Each may wait for another thread; `None` says that the other
-/// end is gone.
+/// The calls by which a thread sends and takes. Each may wait for another thread; `None` means that
+/// the other end is gone.
 pub trait Post {
     /// Sends one message.
     fn say(&self, to: &MailSender, pass: &mut MailPass, who: Sender, message: Message) -> Option<()>
@@ -41,7 +41,7 @@ pub trait Post {
         ensures taken { IfSome result (λ _.
             length (view seat.new.pass).taken ≡ length (view seat.old.pass).taken + 1) };
 
-    /// Takes the word to stop, if it was told by now: it waits for nobody.
+    /// Takes the word to stop, if it was sent before the call: it does not wait.
     fn take_stop(&self, seat: &mut StopSeat) -> bool
         requires seat { IsSeatAt (receives_on seat.old.from) seat.old.pass }
         requires role { (l : List StopT) × (view seat.old.pass ≡ taker l) }

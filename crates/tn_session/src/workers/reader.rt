@@ -22,11 +22,11 @@ use tn_cores::{Gate, Message, Place};
 use tn_discipline::Text;
 use tn_jobs::{After, JobId};
 
-// What a read gave.
+// The result of a read.
 #[derive(Drop)]
 enum Got {
     Bytes(Text),
-    // It was interrupted, and is to be made again.
+    // The read was interrupted, and is to be made again.
     Again,
     Last(Message),
 }
@@ -52,8 +52,8 @@ fn read_piece<Rd: Source>(reader: &mut Rd, alloc: Global) -> Got
     }
 }
 
-/// The part of a thread that reads: who it is, the job as whose text it says its reader's last words, if it
-/// does, the place that the gate is told, and its gate.
+/// The part of a thread that reads: its sender, the job as whose text it sends its reader's last
+/// words, if it does, the place that the gate gets, and its gate.
 #[derive(Drop)]
 pub struct ReaderPart<G> {
     pub who: Sender,
@@ -62,7 +62,8 @@ pub struct ReaderPart<G> {
     pub gate: Arc<G, Global>,
 }
 
-// Tells the size of the window, if it is another than before. `None` where the other end is gone.
+// Sends the size of the window, if it differs from the last one. It returns `None` if the other end
+// is gone.
 fn tell_size<P: Post, Rd: Source>(
     post: &P,
     to: &MailSender,
@@ -86,7 +87,8 @@ fn tell_size<P: Post, Rd: Source>(
     }
 }
 
-// Tells the control function that is asked for now, if there is one. `None` where the other end is gone.
+// Sends the control function that is requested, if there is one. It returns `None` if the other end
+// is gone.
 fn tell_control<P: Post, Rd: Source>(
     post: &P,
     to: &MailSender,
@@ -110,7 +112,7 @@ fn tell_control<P: Post, Rd: Source>(
     }
 }
 
-// Tells what a reader tells between two reads. `None` where the other end is gone.
+// Sends what a reader reports between two reads. It returns `None` if the other end is gone.
 fn tell_beside<P: Post, Rd: Source>(
     post: &P,
     to: &MailSender,
@@ -130,7 +132,7 @@ fn tell_beside<P: Post, Rd: Source>(
     tell_control(post, to, pass, who, reader)
 }
 
-// What is said of a reader whose reading ended so, as a text of this job: its last words where nothing more
+// Returns the last words of a reader whose reading ended so, as a text of this job, if nothing more
 // comes.
 fn last_words<Rd: Source>(
     alloc: Global,
@@ -152,8 +154,8 @@ fn last_words<Rd: Source>(
     Ok(Some(Message::Said { job, text, after }))
 }
 
-// How the reading is told to have ended, and what is said of its reader before that: where there is no memory
-// for that, memory ran out.
+// Returns how the reading ended, and the reader's last words before that: if there is no memory for
+// those, memory ran out.
 fn end_of<Rd: Source>(
     alloc: Global,
     job: Option<JobId>,
@@ -169,7 +171,7 @@ fn end_of<Rd: Source>(
     }
 }
 
-// Says this, where there is something to say. `None` where the other end is gone.
+// Sends this message, if there is one. It returns `None` if the other end is gone.
 fn say_any<P: Post>(
     post: &P,
     to: &MailSender,
@@ -189,7 +191,7 @@ fn say_any<P: Post>(
     }
 }
 
-// Tells how the reading ended, and before that what is said of its reader.
+// Sends how the reading ended, and before that the reader's last words.
 fn tell_end<P: Post, Rd: Source, G: Gate>(
     post: &P,
     alloc: Global,
@@ -211,10 +213,10 @@ fn tell_end<P: Post, Rd: Source, G: Gate>(
 }
 
 // tools/progress: proctype Net, ClientNet and ClientKeys
-/// Sends the pieces that the reader gives, each for a credit where these are needed, with the sizes and the
-/// control functions that it tells between them, and then how it ended, behind its last words: after
-/// 4,294,967,295 reads as if one had failed. Where it is told to stop it leaves after a piece. `None` where
-/// the other end is gone.
+/// Sends the pieces that the reader gives, each for a credit if these are needed, with the sizes
+/// and the control functions that it reports between them, and then its last words and how it
+/// ended: after 4,294,967,295 reads as if one had failed. If it is asked to stop, it leaves after a
+/// piece. It returns `None` if the other end is gone.
 pub fn run_reader<P: Post, Rd: Source + Drop, G: Gate>(
     post: &P,
     alloc: Global,

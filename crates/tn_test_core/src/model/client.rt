@@ -19,9 +19,9 @@ pub(crate) struct Client {
     size: (u16, u16),
     mask: Vec<u8>,
     roles: Vec<Role>,
-    /// The keys of the half line that the server edits, were its ISIG set.
+    /// The keys of the half-typed line that the server edits, were its ISIG set.
     trapping: Vec<Role>,
-    /// The same, were it clear.
+    /// The roles of the keys of the line that the server edits, if its ISIG were clear.
     plain: Vec<Role>,
     lengths: Vec<usize>,
     pub(crate) sent: Vec<u8>,
@@ -87,8 +87,8 @@ impl Client {
         }
     }
 
-    // The mode becomes this one. Where EDIT ends, what is held is sent; where it begins, the half line
-    // goes on from the keys that the server edited, all of which were sent.
+    // Sets the mode. If EDIT ends, the held bytes are sent; if it begins, the half-typed line goes
+    // on from the keys that the server edited, all of which were sent.
     fn leave(&mut self, mode: u8) {
         match (self.edits(), mode & 1 == 1) {
             (true, false) => self.end_editing(),
@@ -115,7 +115,7 @@ impl Client {
         self.count_half();
     }
 
-    // The half line has had its length.
+    // The half-typed line has had its length.
     fn count_half(&mut self) {
         let length = self.half().len();
         let _refused = self.lengths.push(length);
@@ -125,7 +125,8 @@ impl Client {
         roles.to_vec(self.alloc).unwrap_or(Vec::new(self.alloc))
     }
 
-    /// How long the half line is that the server edits, were its ISIG set, and were it clear.
+    /// Returns the length of the half-typed line that the server edits, if its ISIG were set, and
+    /// if it were clear.
     pub(crate) fn counts(&self) -> (usize, usize) {
         if self.edits() {
             return (0, 0);
@@ -152,7 +153,7 @@ impl Client {
     }
 }
 
-// What LINEMODE says (RFC 1184).
+// The client's part in LINEMODE (RFC 1184).
 impl Client {
     fn told_by(&mut self, params: &[u8]) {
         match params {
@@ -202,7 +203,7 @@ impl Client {
         }
     }
 
-    // A triple, and the answer to it where it is no acknowledgement.
+    // Takes a triple, and returns the answer to it if it is no acknowledgement.
     fn offered(&mut self, func: u8, level: u8, value: u8) -> Option<[u8; 3]> {
         let Some(present) = self.table.get(func) else {
             return (func != 0 && level != 0).then_some([func, 0, 0]);
@@ -267,13 +268,13 @@ impl Client {
         octet & (128 >> (byte % 8)) != 0 && self.half().len() < 254
     }
 
-    /// How much of the half line was sent: the least length that it has had since editing began, or since a
-    /// byte sent all of it.
+    /// Returns how much of the half-typed line was sent: the least length that it has had since
+    /// editing began, or since a byte sent all of it.
     pub(crate) fn ahead(&self) -> usize {
         self.lengths.iter().copied().min().unwrap_or(0)
     }
 
-    /// What is held: the rest of the half line.
+    /// Returns the held bytes: the rest of the half-typed line.
     pub(crate) fn held(&self) -> Vec<u8> {
         let half = self.half();
         let held = half.get(self.ahead()..).unwrap_or(&[]);
@@ -339,7 +340,7 @@ impl Client {
         let _refused = self.sent.extend_from_slice(closing);
     }
 
-    // The echo of a key that is about to join the roles, where the server has none.
+    // Shows the echo of a key that is about to join the roles, if the server has none.
     fn echo(&mut self, role: Role) {
         if self.options.is_on(false, 1) {
             return;
@@ -350,13 +351,13 @@ impl Client {
         }
     }
 
-    /// The half line: what is kept of the keys after the last that closed a line.
+    /// The half-typed line: what is kept of the keys after the last that closed a line.
     pub(crate) fn half(&self) -> Vec<u8> {
         half(self.alloc, 254, &self.roles)
     }
 }
 
-// The echo of a key behind so many bytes of the half line.
+// Returns the echo of a key after this number of bytes of the half-typed line.
 fn echo_of(role: Role, counted: usize) -> [Option<u8>; 3] {
     match role {
         Role::Ordinary(_) if counted >= 254 => [Some(7), None, None],

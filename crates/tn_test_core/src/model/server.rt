@@ -148,7 +148,7 @@ impl Server {
     }
 }
 
-// What LINEMODE and NAWS say (RFC 1184, RFC 1073).
+// The server's part in LINEMODE and NAWS (RFC 1184, RFC 1073).
 impl Server {
     fn told_by(&mut self, option: u8, params: &[u8]) {
         if !self.options.is_on(false, option) {

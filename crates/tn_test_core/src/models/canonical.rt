@@ -8,7 +8,7 @@ pub fn closes(role: Role) -> bool {
     matches!(role, Role::Nl | Role::Eol(_) | Role::Eol2(_) | Role::Eof)
 }
 
-/// What a key is, after it is mapped.
+/// Returns the role of a key, after it is mapped.
 pub fn role_of(flags: &Flags, table: &Table, key: u8) -> Role {
     match key {
         13 if flags.igncr => Role::Ignored,
@@ -33,7 +33,7 @@ fn mapped_role(flags: &Flags, table: &Table, byte: u8) -> Role {
     }
 }
 
-/// The keys that find room: the half line never counts more bytes than this.
+/// The keys that find room: the half-typed line never counts more bytes than this.
 fn admitted(alloc: Global, most: usize, roles: &[Role]) -> Vec<Role> {
     let mut keys = Vec::new(alloc);
     let mut count = 0usize;
@@ -50,7 +50,8 @@ fn admitted(alloc: Global, most: usize, roles: &[Role]) -> Vec<Role> {
     keys
 }
 
-// What is kept of a piece: it is read from its right end, with a count of the outstanding erasures.
+// Returns the bytes that are kept of a piece: it is read from its right end, with a count of the
+// outstanding erasures.
 fn kept(alloc: Global, piece: &[Role]) -> Vec<u8> {
     let mut bytes = Vec::new(alloc);
     let mut outstanding = 0usize;
@@ -69,7 +70,7 @@ fn kept(alloc: Global, piece: &[Role]) -> Vec<u8> {
     bytes
 }
 
-/// The half line: what is kept of the keys after the last one that closed a line.
+/// The half-typed line: what is kept of the keys after the last one that closed a line.
 pub fn half(alloc: Global, most: usize, roles: &[Role]) -> Vec<u8> {
     let last = roles.rsplit(|role| closes(*role)).next().unwrap_or(&[]);
     kept(alloc, &admitted(alloc, most, last))

@@ -50,7 +50,7 @@ impl Table {
         table
     }
 
-    /// The character of a function, if it can have one; None inside where it is disabled.
+    /// Returns the character of a function, if it can have one; None inside if it is disabled.
     pub fn get(&self, func: u8) -> Option<Option<u8>> {
         self.rows
             .iter()

@@ -27,7 +27,7 @@ const COMMANDS: &str =
     "236=EOF 237=SUSP 238=ABORT 239=EOR 241=NOP 242=DM 243=BRK 244=IP 245=AO 246=AYT \
         247=EC 248=EL 249=GA";
 
-// The name behind a number, or the number.
+// Appends the name after a number, or the number.
 fn put_name(names: &str, code: u8, text: &mut String) {
     for entry in names.split(' ') {
         if let Some((number, name)) = entry.split_once('=') {
@@ -44,7 +44,7 @@ fn put(text: &mut String, more: &str) {
     let _refused = text.push_str(more);
 }
 
-// How many bytes of data stand right before this place.
+// Returns the number of bytes of data right before this place.
 fn data_before(items: &[Item], place: usize) -> usize {
     let mut count = 0usize;
     for item in items.iter().take(place) {
@@ -60,7 +60,7 @@ fn is_data(item: Option<&Item>) -> bool {
     matches!(item, Some(Item::Byte(_)))
 }
 
-/// All that is printed of items, each line behind this prefix.
+/// Returns all that is printed of items, each line after this prefix.
 pub fn lines(alloc: Global, prefix: &str, items: &[Item]) -> String {
     let mut text = String::new(alloc);
     for (place, item) in items.iter().enumerate() {

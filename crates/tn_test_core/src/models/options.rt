@@ -21,7 +21,8 @@ pub enum Cause {
     OffWish,
 }
 
-/// The next state of an entry for the other end's side, and whether an on word or an off word is sent.
+/// Returns the next state of an entry for the other end's side, and whether an on message or an off
+/// message is sent.
 pub fn cell(agreed: bool, state: QState, cause: Cause) -> (QState, Option<bool>) {
     match (cause, state) {
         (Cause::OnWord, QState::No) if agreed => (QState::Yes, Some(true)),
@@ -93,7 +94,8 @@ impl Options {
         })
     }
 
-    /// Changes an entry, and sends a word where the method says so. Returns whether the option is known.
+    /// Changes an entry, and sends a message if the method says so. Returns whether the option is
+    /// known.
     pub fn turn(&mut self, ours: bool, option: u8, cause: Cause, sent: &mut Vec<u8>) -> bool {
         let mut is_known = false;
         let mut said = None;
@@ -111,7 +113,7 @@ impl Options {
         is_known
     }
 
-    /// A word from the other end arrives.
+    /// Takes a message from the other end.
     pub fn hear(&mut self, ours: bool, on: bool, option: u8, sent: &mut Vec<u8>) {
         let cause = if on { Cause::OnWord } else { Cause::OffWord };
         let is_known = self.turn(ours, option, cause, sent);
@@ -121,7 +123,7 @@ impl Options {
     }
 }
 
-/// Whether a word that arrives is about our side, and whether it is an on word.
+/// Returns whether a message that arrives is about our side, and whether it is an on message.
 pub fn meaning(verb: Verb) -> (bool, bool) {
     match verb {
         Verb::Will => (false, true),

@@ -178,7 +178,7 @@ pub fn bytes_of(alloc: Global, word: &str) -> Vec<u8> {
 pub trait Stage: Drop + Sized {
     fn open(alloc: Global) -> Option<Self>;
 
-    /// Runs a command. Returns true where there is no memory for it; it has done nothing then.
+    /// Runs a command. Returns true if there is no memory for it; it has done nothing then.
     fn step(&mut self, words: Words<'_>, page: &mut Page) -> bool;
 }
 
@@ -194,8 +194,9 @@ fn play<S: Stage>(alloc: Global, script: &str, page: &mut Page) {
     }
 }
 
-/// The page of the script, if it differs from the wanted text. One allocation may fail anywhere: a command
-/// that it fails is tried again, and so is the whole script where text or an end is lost.
+/// Returns the page of the script, if it differs from the wanted text. One allocation may fail
+/// anywhere: a command that it fails is tried again, and so is the whole script if text or an end
+/// is lost.
 pub fn unlike<S: Stage>(alloc: Global, script: &str, wanted: &str) -> Option<Page> {
     let mut page = Page::new(alloc);
     play::<S>(alloc, script, &mut page);

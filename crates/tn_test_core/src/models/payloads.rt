@@ -1,4 +1,4 @@
-//! What short NAWS and LINEMODE payloads say, fault by fault.
+//! The payloads of short NAWS and LINEMODE subnegotiations, fault by fault.
 
 use std::alloc::Global;
 use tn_codes::{Mask, Payload, PayloadFault, Triple, Triples, Verb};

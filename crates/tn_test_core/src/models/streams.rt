@@ -11,7 +11,7 @@ struct First<'a> {
     after: &'a [u8],
 }
 
-// None where the stream is shorter than a segment and its look-ahead.
+// Returns the first segment; None if the stream is shorter than a segment and its look-ahead.
 fn first_segment<'a>(alloc: Global, stream: &'a [u8]) -> Option<First<'a>> {
     let (item, after) = match stream {
         [] | [13] | [255] => return None,
@@ -26,7 +26,7 @@ fn first_segment<'a>(alloc: Global, stream: &'a [u8]) -> Option<First<'a>> {
     Some(First { item, after })
 }
 
-// The same after IAC and this byte.
+// Returns the first segment after IAC and this byte.
 fn command<'a>(code: u8, after: &'a [u8]) -> Option<First<'a>> {
     let Some(verb) = Verb::from_code(code) else {
         let item = Command::from_code(code).map(Item::Cmd);
@@ -41,7 +41,7 @@ fn command<'a>(code: u8, after: &'a [u8]) -> Option<First<'a>> {
     }
 }
 
-// The same after IAC SB.
+// Returns the first segment after IAC SB.
 fn subnegotiation<'a>(alloc: Global, body: &'a [u8]) -> Option<First<'a>> {
     let mut bytes = Vec::new(alloc);
     let mut rest = body;

@@ -7,7 +7,7 @@ use tn_client::{ClientEnd, ClientFault, UserCommand};
 use tn_discipline::Limit;
 use tn_option::Side;
 
-/// What a server says at the opening.
+/// A server's opening messages.
 const OPENING: &str = "fffd22fffd1ffffb03fffd03fffb01";
 
 /// The server asks for EDIT and TRAPSIG, and is rid of its ECHO.
@@ -51,14 +51,14 @@ impl Stage for Client {
 }
 
 impl Client {
-    // The server says this. What is answered was seen before.
+    // Takes a piece of the server, whose replies were seen before.
     fn join(&mut self, piece: &str) {
         let piece = bytes_of(self.alloc, piece);
         let _refused = self.end.feed(&piece, &mut self.sent, &mut self.shown);
         self.sent.clear();
     }
 
-    // What may be refused. Returns whether it was, for lack of memory.
+    // Makes a call that may be refused. Returns whether it was, for lack of memory.
     fn call(&mut self, words: Words<'_>, page: &mut Page) -> bool {
         let ended = match words.verb {
             "keys" => self.keys(words),
@@ -136,7 +136,7 @@ impl Client {
 }
 
 const ANSWERS: &[(&str, &str)] = &[
-    // A client joins and tells its size.
+    // A client joins and sends its size.
     (
         "resize 255 24; resize 80 24; feed fffd22fffd1ffffb03fffd03fffb01; resize 255 24; \
          resize 255 24; resize 80 24; ours 34; ours 1; failed",
@@ -148,7 +148,7 @@ const ANSWERS: &[(&str, &str)] = &[
         "join; feed fffb63; feed fffb63; feed fffd01; feed fffb22; feed fffd22; feed fffc01",
         "sent fffe63; sent fffe63; sent fffc01; sent fffe22; sent fffe01",
     ),
-    // A new line is CR LF, RETURN is CR NUL, and both end a line that is edited here.
+    // A new line is CR LF, RETURN is CR NUL, and both end a line that the client edits.
     (
         "enter; keys 0d; join; enter; edit; keys 61; enter; keys 610d; keys 62; half; enter; half",
         "sent 0d0a; shown 0d0a; sent 0d00; shown 0d0a; sent 0d0a; shown 61; sent 610d0a; shown 0d0a; \
@@ -165,7 +165,7 @@ const ANSWERS: &[(&str, &str)] = &[
         "join; feed fffa22fd0208fff0; feed fffa22fe02fff0",
         "sent fffa22fb02fff0; sent fffa22fc02fff0",
     ),
-    // A client takes the characters that it is told.
+    // A client takes the characters that the server sends.
     (
         "join; edit; feed fffa22030a0215fff0; feed fffa22030a8208fff0; feed fffa220311023bfff0; \
          feed fffa2203050214fff0; feed fffa22030a020afff0; char el; char ec; keys 6162087f3b",
@@ -185,25 +185,24 @@ fn a_client_answers_what_its_server_says(rt: HostRuntime) {
 }
 
 const TYPING: &[(&str, &str)] = &[
-    // Held bytes are sent where editing ends.
+    // Held bytes are sent when editing ends.
     (
         "join; edit; keys 61ff; half; ahead; feed fffa220102fff0; half; feed fffa220103fff0; keys 7879; \
          feed fffe22; mode; half; feed fffa220103fff0",
         "shown 61ff; half 61ff; 0; sent 61fffffffa220106fff0; half; sent fffa220107fff0; shown 7879; \
          sent 7879fffc22; 0; half",
     ),
-    // Keys are passed on where the server edits.
+    // Keys are passed on if the server edits.
     (
         "keys 030d0aff; join; keys 617f0d",
         "sent 030d000affff; shown 030d0a0d0aff; sent 617f0d00",
     ),
-    // Signals alone become commands under TRAPSIG.
-    // A signal is echoed as any other byte then.
+    // Only signals become commands under TRAPSIG. A signal is echoed as any other byte then.
     (
         "join; edit; feed fffa220102fff0; keys 031c1a04",
         "sent fffa220106fff0; sent fff4ffeeffed04; shown 031c1a04",
     ),
-    // The end of file is a command with EDIT alone, where an interrupt is an ordinary byte.
+    // The end of file is a command only with EDIT, when an interrupt is an ordinary byte.
     (
         "join; feed fffa220101fff0; keys 610304; half",
         "sent fffa220105fff0; sent 6103ffec; half",
@@ -220,8 +219,8 @@ const TYPING: &[(&str, &str)] = &[
         "sent fff3; sent 61; sent fff1; shown 62; sent fff3; sent fff4; sent fff6; half 62; \
          sent 62630d0a; shown 630d0a",
     ),
-    // A client'shows what the server writes.
-    // While the server echoes, a key shows nothing here.
+    // A client shows the bytes that the server writes. While the server echoes, a key shows nothing
+    // at the client.
     (
         "join; edit; feed fffb0168690d0a0d00; feed 610a62ffff630d64; keys 710d",
         "sent fffd01; shown 68690d0a0d; shown 610a62ff630d64; sent 710d0a",

@@ -10,7 +10,7 @@ use std::alloc::Global;
 use std::process::Abort;
 use tn_codes::{Command, Func, Level, Mask, Payload, Triple, Verb, read_payload, write_payload};
 
-/// Whether a payload is one that may be written.
+/// Returns whether a payload is one that may be written.
 pub(crate) fn is_short(payload: &Payload) -> bool
     ensures { IsTrue result → IsShort payload.now }
 {
@@ -52,7 +52,7 @@ fn codes_are_those_of_the_standards(rt: HostRuntime) {
     assert!(rt; Level::from_code(3) == Some(Level::ByDefault));
 }
 
-// Reads the parameters of an option, tells what they say, and writes that again.
+// Reads the parameters of an option, prints their payload, and writes that again.
 #[derive(Drop)]
 struct Payloads {
     alloc: Global,
@@ -130,8 +130,8 @@ fn masks_have_the_characters_of_their_bits(rt: HostRuntime) {
     assert!(rt; first.has(0) && !first.has(1));
 }
 
-// The list that the telnet of Linux sends, with SYNCH by default and the flush flags on IP, ABORT and
-// SUSP, and BRK that can't be changed.
+// The list that the telnet of Linux sends, with SYNCH by default and the flush flags on IP, ABORT
+// and SUSP, and BRK that cannot be changed.
 const LINUX: &str = "0301030003620304020f05000007621c08020409421a0a027f0b02150f0211100213020100";
 
 fn is_of_linux(triples: &[Triple]) -> bool {

@@ -1,4 +1,5 @@
-//! The lines that are printed of streams: each form once, and random streams beside the model of it.
+//! The lines that are printed of streams: each form once, and random streams compared with the
+//! model.
 
 use crate::models::decode::lines;
 use crate::models::page::bytes_of;
@@ -9,8 +10,8 @@ use std::process::Abort;
 use tn_net::printing::{Lines, Prefix};
 use tn_nvt::Decoder;
 
-// What is printed of a stream that comes in two pieces, unless memory ran out; the lines that are complete are
-// taken in between.
+// Returns the lines that are printed of a stream that comes in two pieces, unless memory ran out;
+// the lines that are complete are taken in between.
 fn printed(alloc: Global, prefix: Prefix, first: &[u8], second: &[u8]) -> Option<Vec<u8>> {
     let mut decoder = Decoder::new(alloc);
     let mut lines = Lines::new(alloc, prefix);
@@ -209,7 +210,7 @@ fn low(number: usize) -> u8 {
     u8::try_from(number % 256).unwrap_or(0)
 }
 
-// Appends a subnegotiation, most of which say something.
+// Appends a subnegotiation, most of which have a meaning.
 fn say_parameters(random: &mut Random, stream: &mut Vec<u8>) {
     let option = random.pick(&[24, 31, 34, 34, 34, 99]);
     let mut params = [0; 40];

@@ -68,7 +68,7 @@ impl Stage for Editing {
 }
 
 impl Editing {
-    // An editor of other words.
+    // Makes an editor with another set of characters that part words.
     fn renew(&mut self) -> bool {
         match editor(self.alloc, Words::Blanks) {
             Some(editor) => {
@@ -103,7 +103,7 @@ impl Editing {
         }
     }
 
-    // Puts the line that the user looks at in place of the half line.
+    // Puts the line that the user looks at in place of the half-typed line.
     fn recall(&mut self, page: &mut Page) {
         let Ok(line) = Vec::from_slice(self.alloc, self.history.line()) else {
             return;
@@ -147,13 +147,14 @@ const SCRIPTS: &[(&str, &str)] = &[
         "keys 68c3a97f690a; keys e282617f7f620a; presses 61c3a97f7f7f",
         "text 68690a; text 620a; 1; 1; 1; 2; 1; 1",
     ),
-    // WERASE takes back a word of letters, digits and underlines, and what parts it from the end of the line.
+    // WERASE takes back a word of letters, digits and underlines, and the characters that part it
+    // from the end of the line.
     (
         "keys 666f6f2f62617217780a; keys 666f6f2062617220201778.0a; keys 666f6f202d2d17780a; \
          keys 636166c3a9206e61c3af76651778.0a",
         "text 666f6f2f780a; text 666f6f20780a; text 780a; text 636166c3a920780a",
     ),
-    // Else a word is what spaces and tabs leave.
+    // Else a word is the bytes between spaces and tabs.
     (
         "blanks; keys 6120666f6f2f6261722009.17780a",
         "text 6120780a",
@@ -165,7 +166,7 @@ const SCRIPTS: &[(&str, &str)] = &[
         "keys 252x61.c3a90a; keys 253x61.c3a90a; keys 254x61.c3a90a; keys 254x61; presses 62",
         "text 252x61.c3a90a; text 253x61.0a; text 254x61.0a; 1",
     ),
-    // Of bytes that were typed before nothing is known.
+    // Nothing is known of bytes that were typed before.
     (
         "resume 3; presses c3a97f7f17157f17; half; resume 254; presses 61",
         "1; 1; 2; 1; 1; 1; 1; 0; half; 1",
@@ -250,7 +251,7 @@ const DRAWN: &[(&str, &str)] = &[
         "keys 615e41082008082008; keys 20202020202020; keys 082008082008082008082008082008082008082008; \
          keys c3a9; keys 082008",
     ),
-    // What stands on several rows is taken away, and shown again after the output.
+    // A half-typed line on several rows is taken away, and shown again after the output.
     (
         "output 3e20; keys 8x61.62; away; output 78; again",
         "keys 6161616161616161200d62; away 1b5b410d1b5b431b5b431b5b4a; again 61616161616161200d6162",
@@ -260,7 +261,7 @@ const DRAWN: &[(&str, &str)] = &[
         "keys 6112; keys 15; keys 03; keys 610d",
         "keys 615e520d0a61; keys 082008; keys 5e43; keys 610d0a",
     ),
-    // Of a byte that was typed before a column is rubbed out.
+    // For a byte that was typed before a column is rubbed out.
     (
         "output 3e20616263; resume 3; keys 647f7f; keys 15; keys 65",
         "keys 64082008082008; keys 082008082008; keys 65",

@@ -8,12 +8,12 @@ use tn_discipline::{Entry, Limit, Settings};
 use tn_server::ServerEnd;
 
 const AT_A_SERVER: &[(&str, &str)] = &[
-    // An option that nobody knows is refused each time.
+    // An unknown option is refused each time.
     (
         "says 1000xfffb63 1000xfffe63; says 1000xfffe63 ; says 1000xfffa63fff0 ",
         "true; true; true",
     ),
-    // The table is told again where LINEMODE comes on again.
+    // The table is sent again if LINEMODE comes on again.
     (
         "join; says fffc22fffb22 fffe22fffd22.\
          fffa220303020307021c08020409021a0a027f0b0215110000120000fff0; \
@@ -23,9 +23,9 @@ const AT_A_SERVER: &[(&str, &str)] = &[
          fffa220303020307021c08020409021a0a027f0b0215110000120000fff0",
         "true; true",
     ),
-    // An option word is answered by forty-three bytes at most.
-    // Nothing costs a server more for its bytes: a word that turns LINEMODE on again,
-    // once it was told to edit.
+    // The reply to an option message has at most forty-three bytes. Nothing costs a server more for
+    // its bytes: a message that turns LINEMODE on again, once the server was asked to let the
+    // client edit.
     (
         "wish local; feed fffd01; says fffc22 ; says fffb22 fffd22.\
          fffa220303020307021c08020409021a0a027f0b0215110000120000fff0.fffa220103fff0fffc01",
@@ -53,7 +53,7 @@ const AT_A_SERVER: &[(&str, &str)] = &[
         "says fffa63.100000x41.fff0610d00 ; take; take; says fffa22.600xffff.fff0620d00 ; take",
         "true; text 610a; none; true; text 620a",
     ),
-    // A line more than the job may be behind ends the session.
+    // A line more than the job may be late ends the session.
     (
         "feed 1025x0d00; feed 61; take-lines; take",
         "Pty(TooFarAhead); Failed; 1024; none",
@@ -71,9 +71,8 @@ const AT_A_CLIENT: &[(&str, &str)] = &[
         "join; feed fffa22fd02.33x01.fff0; feed fffa1f00500018fff0; feed fffa2201fff0; mode",
         "0",
     ),
-    // A client answers no word by more than sixteen bytes.
-    // Nothing costs a client more: a word that turns NAWS on, where each byte of the window's size is spelled
-    // twice.
+    // A client's reply to a message has at most sixteen bytes. Nothing costs a client more: a
+    // message that turns NAWS on, if each byte of the window's size is spelled twice.
     (
         "resize 65535 65535; feed fffd1f; feed fffe1f; feed fffd1f; feed fffd22; feed fffe22",
         "sent fffb1ffffa1f9xff.f0; sent fffc1f; sent fffb1ffffa1f9xff.f0; sent fffb22; sent fffc22",
@@ -85,7 +84,7 @@ fn a_client_bears_a_server_that_means_harm(rt: HostRuntime) {
     play_all::<Client>(&rt, rt.alloc(), AT_A_CLIENT);
 }
 
-/// A subnegotiation of an option that nobody knows, and 513 parameters: one more than are kept.
+/// A subnegotiation of an unknown option, and 513 parameters: one more than are kept.
 fn too_many() -> [u8; 516] {
     let mut piece = [65; 516];
     piece[0] = 255;

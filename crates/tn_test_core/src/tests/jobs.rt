@@ -34,7 +34,8 @@ impl Stage for Jobs {
     }
 }
 
-// The verb has the state and whether a text was written; the words, what comes after, and TOSTOP.
+// Prints a verdict. The verb has the state and whether a text was written; the arguments, what
+// comes after, and TOSTOP.
 fn tell_verdict(words: Words<'_>, page: &mut Page) {
     let (state, wrote) = words.verb.split_once('-').unwrap_or((words.verb, ""));
     let state = match state {

@@ -144,7 +144,7 @@ const SCRIPTS: &[(&str, &str)] = &[
          03ff120000130207c800000b1aff; server-has el",
         "answers 0100000400000500000b82180c00000d00000e00000f00001000001300000b8000; None",
     ),
-    // A client takes what it is told.
+    // A client takes the characters that it is sent.
     (
         "client-got 03020307021c080204; propose ec 08; propose ec; propose ec 0a; propose ao 0a; \
          client-got 0a0215; client-has ec; client-has el; client-got 0b820308020a08010d000300; \

@@ -1,4 +1,4 @@
-//! The half line, the roles of its keys, and their echo.
+//! The half-typed line, the roles of its keys, and their echo.
 
 use super::play_all;
 use crate::models::page::{Page, Stage, Words, size_of};
@@ -99,7 +99,7 @@ impl Typing {
         }
     }
 
-    // A key whose memory is refused is typed again. Those that are only kept are not told.
+    // Types a key, again if its memory is refused. Those that are only kept are not printed.
     fn type_one(&mut self, verb: &str, key: u8, page: &mut Page) {
         let mut effect = self.act(verb, key);
         if effect.is_err() {
@@ -159,7 +159,7 @@ const SCRIPTS: &[(&str, &str)] = &[
         "Erased; text 61630a; Nothing; Killed(0); eof; text 61; eof; int; text 61620a; quit; tstp; held 61; \
          0; Erased; text 61623b; held 63",
     ),
-    // Edited bytes close a line at its closing characters alone.
+    // Edited bytes close a line only at its closing characters.
     (
         "close-at forw1 3b; close-at forw2 21; literal 030d; erase; literal 3b; literal 63; literal 21; \
          erase; keys 61; kill; end-of-file; keys 62; end-of-file; held; ahead",

@@ -66,7 +66,7 @@ fn verb_of(words: Words<'_>) -> Verb {
 }
 
 const AT_ONE_END: &[(&str, &str)] = &[
-    // A wish queues behind another.
+    // A request queues after another.
     (
         "wish-on them 34; wish-on them 34; wish-off them 34; wish-off them 34; got will 34; \
          state them 34; wish-off them 3; wish-on us 99",
@@ -87,7 +87,7 @@ fn an_engine_answers_wishes_and_words(rt: HostRuntime) {
     play_all::<Options>(&rt, rt.alloc(), AT_ONE_END);
 }
 
-// The end that performs LINEMODE, the other, and the words on their way to each.
+// The end that performs LINEMODE, the other, and the messages on their way to each.
 #[derive(Drop)]
 struct TwoEnds {
     performer: Engine,
@@ -145,7 +145,7 @@ impl TwoEnds {
         });
     }
 
-    // What is on its way arrives, at the other end first.
+    // Delivers the messages that are on their way, at the other end first.
     fn deliver(&mut self, page: &mut Page) {
         for verb in &self.to_other {
             say(
@@ -167,7 +167,7 @@ impl TwoEnds {
 }
 
 const AT_TWO_ENDS: &[(&str, &str)] = &[
-    // Wishes that cross agree.
+    // Requests that cross agree.
     (
         "performer on; other on; deliver; states",
         "Will; DoIt; Yes; Yes",
@@ -177,12 +177,12 @@ const AT_TWO_ENDS: &[(&str, &str)] = &[
         "refusing; performer on; deliver; states",
         "Will; DontIt; No; No",
     ),
-    // A wish is taken back before its answer.
+    // A request is taken back before its answer.
     (
         "performer on; performer off; deliver; deliver; states",
         "Will; DoIt; Wont; DontIt; No; No",
     ),
-    // A far end wishes behind its refusal.
+    // A far end makes a request after its refusal.
     (
         "refusing; performer on; deliver; other on; deliver; deliver; states",
         "Will; DontIt; DoIt; Will; Yes; Yes",
@@ -203,7 +203,7 @@ const STATES: [QState; 6] = [
     QState::WantYesOpposite,
 ];
 
-// The words that are an on word and an off word of a side.
+// Returns the messages that turn a side on and off.
 fn words_of(side: Side) -> (Verb, Verb) {
     match side {
         Side::Us => (Verb::DoIt, Verb::DontIt),
@@ -233,7 +233,7 @@ fn engine_at(side: Side, state: QState) -> Engine {
     engine
 }
 
-// The same change at an engine, and whether an on word or an off word is sent.
+// Makes the change at an engine, and returns whether an on message or an off message is sent.
 fn changed(engine: &mut Engine, side: Side, cause: Cause) -> Result<Option<bool>, AskFault> {
     let (on, off) = words_of(side);
     let said = match cause {
@@ -245,7 +245,7 @@ fn changed(engine: &mut Engine, side: Side, cause: Cause) -> Result<Option<bool>
     Ok(said.map(|(verb, _)| meaning(verb).1))
 }
 
-// A wish that changes nothing is refused for its cause.
+// Returns the cause for which a request that changes nothing is refused.
 fn refusal(state: QState, on: bool) -> Option<AskFault> {
     match (state, on) {
         (QState::No, false) | (QState::Yes, true) => Some(AskFault::AlreadySo),

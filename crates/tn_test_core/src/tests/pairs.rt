@@ -89,7 +89,7 @@ impl Master {
         self.pair.set_flags(flags);
     }
 
-    // Keys, so many times. The first fault is told.
+    // Types keys, this number of times. The first fault is printed.
     fn type_all(&mut self, words: Words<'_>, page: &mut Page) {
         let mut ended = Ok(());
         for _ in 0..number_of(words.second).max(1) {
@@ -133,7 +133,7 @@ const SCRIPTS: &[(&str, &str)] = &[
         "keys 610a03; signal; waiting 1; waiting 2; take; signal; take; take; signal",
         "Some(Int); int; none; text 610a; Some(Int); int; none; None",
     ),
-    // A pair closes where its slave is too far behind.
+    // A pair closes if its slave is too far behind.
     (
         "keys 0a 1024; keys 61; keys 0a; keys 61; edited 61; command f1; half; waiting 1023; \
          waiting 1024; take-lines; take; write 62; queued",

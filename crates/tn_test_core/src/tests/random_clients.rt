@@ -1,4 +1,4 @@
-//! A client end beside the reference model of its definition.
+//! A client end compared with the reference model of its definition.
 
 use crate::model::client::Client;
 use crate::models::random::Random;
@@ -18,7 +18,7 @@ fn say(bytes: &[u8], stream: &mut Vec<u8>) {
     let _refused = stream.extend_from_slice(bytes);
 }
 
-// Something that a server may say.
+// Appends something that a server may send.
 fn speak(random: &mut Random, stream: &mut Vec<u8>) {
     match random.roll(9) {
         0 => {
@@ -42,7 +42,7 @@ fn speak(random: &mut Random, stream: &mut Vec<u8>) {
     }
 }
 
-// An end, its definition, and what both were told.
+// An end, its definition, and the bytes that both got.
 #[derive(Drop)]
 struct Compared {
     alloc: Global,
@@ -88,7 +88,7 @@ impl Compared {
         self.end.key(key, &mut self.sent, &mut self.shown)
     }
 
-    // The server says something, of which some bytes come.
+    // Lets the server send something, of which some bytes come.
     fn feed(&mut self, random: &mut Random) -> Result<(), ClientFault> {
         speak(random, &mut self.stream);
         let count = random.roll(12).min(self.stream.len());
@@ -110,7 +110,7 @@ impl Compared {
     }
 }
 
-// So many calls, each of which both do alike.
+// Makes this number of calls, each of which both do alike.
 fn live(rt: &impl Abort, compared: &mut Compared, random: &mut Random) -> Result<(), ClientFault> {
     for _ in 0..150 {
         compared.call(random)?;

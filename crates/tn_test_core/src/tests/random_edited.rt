@@ -1,4 +1,5 @@
-//! Edited bytes in runs, cut in each place, beside the same bytes one by one and beside the plain terminal.
+//! Edited bytes in runs, cut in each place, compared with the same bytes one by one and with the
+//! plain terminal.
 
 use crate::models::terminal::Terminal;
 use std::alloc::Global;
@@ -10,13 +11,13 @@ use tn_pty::Pair;
 /// An ordinary byte, one that is ERASE as a key, a line feed, and two that may be EOL and EOL2.
 const ALPHABET: [u8; 5] = [b'a', 127, b'\n', b';', b'|'];
 
-/// How many bytes the longest input has.
+/// The number of bytes of the longest input.
 const LONGEST: u32 = 3;
 
-/// As many bytes as fit into a line beside one more.
+/// The bytes that fit into a line before one more.
 const LINE: [u8; 253] = [b'x'; 253];
 
-// The input of so many bytes that has this number among them.
+// The input of this length that has this number among them.
 fn input_at(alloc: Global, length: u32, number: usize) -> Vec<u8> {
     let mut input = Vec::new(alloc);
     let mut rest = number;
@@ -27,7 +28,8 @@ fn input_at(alloc: Global, length: u32, number: usize) -> Vec<u8> {
     input
 }
 
-// The standard settings, where no byte but a line feed closes an edited line, or with EOL and EOL2.
+// The standard settings, under which no byte but a line feed closes an edited line, or with EOL and
+// EOL2.
 fn settings_with(closers: bool) -> Settings {
     let mut settings = Settings::standard();
     if closers {
@@ -66,7 +68,7 @@ fn is_as_defined(rt: &impl Abort, pair: &Pair, plain: &Terminal) {
     }
 }
 
-// The input in two runs, behind this line, does what it did at the other pair.
+// The input in two runs, after this line, has the effect that it had at the other pair.
 fn are_two_runs_alike(
     rt: &impl Abort,
     begun: Option<(Pair, Terminal)>,
@@ -81,7 +83,7 @@ fn are_two_runs_alike(
     }
 }
 
-// The input in two runs, behind this line.
+// Types the input in two runs, after this line.
 fn are_runs_alike(rt: &impl Abort, alloc: Global, settings: &Settings, line: &[u8], input: &[u8]) {
     let Some((mut each, mut plain)) = begun(alloc, settings, line) else {
         return;
@@ -97,7 +99,7 @@ fn are_runs_alike(rt: &impl Abort, alloc: Global, settings: &Settings, line: &[u
     }
 }
 
-// All inputs of so many bytes.
+// All inputs of this number of bytes.
 fn are_all_alike(rt: &impl Abort, alloc: Global, settings: &Settings, line: &[u8], length: u32) {
     for number in 0..5usize.saturating_pow(length) {
         let input = input_at(alloc, length, number);

@@ -1,4 +1,4 @@
-//! A line beside the definition of canonical input.
+//! A line compared with the definition of canonical input.
 
 use crate::models::canonical::{entries, half, role_of};
 use crate::models::characters::Table;
@@ -9,7 +9,8 @@ use tn_discipline::{Effect, Limit, Line, Role, Roles, Settings};
 
 const ALPHABET: [u8; 6] = [b'a', 127, 21, 4, 3, 13];
 
-// What a line gives of these keys and then holds is what the whole list of them says.
+// The entries that a line gives of these keys and the bytes that it then holds are those of the
+// whole list of them.
 fn is_given(rt: &impl Abort, alloc: Global, keys: &[u8]) {
     let settings = Settings::standard();
     let table = Table::of(settings.chars);
@@ -31,8 +32,8 @@ fn is_defined(rt: &impl Abort, alloc: Global, roles: &[Role], held: &[u8]) {
     assert!(rt; held == half(alloc, 254, roles).as_slice());
 }
 
-// Keys that are typed in runs, behind bytes that were handed on: what they leave is what the whole list of
-// both says, and the first that makes an entry is left.
+// Keys that are typed in runs, after bytes that were handed on, leave what the whole list of both
+// leaves, and the first that makes an entry is left.
 fn is_left_by_runs(rt: &impl Abort, alloc: Global, roles: &Roles, ahead: u16, keys: &[u8]) {
     let Ok(mut line) = Line::new(alloc, Limit::standard()) else {
         return;
@@ -52,7 +53,8 @@ fn is_left_by_runs(rt: &impl Abort, alloc: Global, roles: &Roles, ahead: u16, ke
     assert!(rt; roles.role(next).gives_entry());
 }
 
-// The half line that so many bytes and then these keys leave, none of which makes an entry.
+// The half-typed line that this number of bytes and then these keys leave, none of which makes an
+// entry.
 fn half_behind(rt: &impl Abort, alloc: Global, ahead: u16, keys: &[u8]) -> Vec<u8> {
     let settings = Settings::standard();
     let table = Table::of(settings.chars);

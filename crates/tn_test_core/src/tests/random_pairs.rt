@@ -1,4 +1,4 @@
-//! A pair beside the plain terminal.
+//! A pair compared with the plain terminal.
 
 use crate::models::random::Random;
 use crate::models::terminal::Terminal;
@@ -12,10 +12,10 @@ const KEYS: [u8; 8] = [b'a', b'b', 127, 21, 4, 3, 13, 10];
 
 const OUTPUT: [u8; 700] = [b'x'; 700];
 
-/// Of these keys a piece has most; many take back, also where nothing is left.
+/// A piece has most of its keys from these; many take back, even if nothing is left.
 const EDITS: [u8; 12] = [b'a', b'b', b'c', b'd', b'e', 127, 127, 127, 127, 21, 3, 13];
 
-/// How many bytes a line has before such pieces come: none, a few, and nearly as many as fit.
+/// The number of bytes of a line before such pieces come: none, a few, and nearly as many as fit.
 const BEFORE: [u8; 5] = [0, 3, 17, 240, 253];
 
 // A key, a byte or a command at both.
@@ -128,7 +128,7 @@ fn type_piece_at_both(
     pair.type_run(piece.as_slice(), echo)
 }
 
-// Pieces of keys at both, behind a line of so many bytes.
+// Types pieces of keys at both, after a line of this number of bytes.
 fn are_pieces_alike(rt: &impl Abort, alloc: Global, random: &mut Random, before: usize) {
     let settings = Settings::standard();
     let Ok(mut pair) = Pair::new(alloc, settings, Limit::standard()) else {

@@ -1,4 +1,4 @@
-//! Payloads beside a plain reading of them.
+//! Payloads compared with a plain reading of them.
 
 use super::codes::is_short;
 use crate::models::payloads::read;

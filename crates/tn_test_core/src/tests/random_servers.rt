@@ -1,4 +1,4 @@
-//! A server end beside the reference model of its definition.
+//! A server end compared with the reference model of its definition.
 
 use crate::model::server::Server;
 use crate::models::random::Random;
@@ -94,7 +94,7 @@ fn editing(random: &mut Random) -> Editing {
     }
 }
 
-// What a client says that has all the options.
+// The messages of a client that has all the options.
 const JOINING: [u8; 15] = [
     255, 251, 34, 255, 251, 31, 255, 253, 3, 255, 251, 3, 255, 253, 1,
 ];
@@ -102,7 +102,7 @@ const JOINING: [u8; 15] = [
 // Output that fills most of the screen's queue.
 const LONG: [u8; 700] = [b'y'; 700];
 
-// An end, the reference model beside it, and what their client says.
+// An end, the reference model next to it, and the bytes that their client sends.
 #[derive(Drop)]
 struct Compared {
     alloc: Global,
@@ -126,7 +126,7 @@ impl Compared {
         })
     }
 
-    // The client says something, of which some bytes come.
+    // Lets the client send something, of which some bytes come.
     fn feed(&mut self, random: &mut Random) -> Result<(), ServerFault> {
         for _ in 0..random.roll(5) {
             speak(random, &mut self.stream);
@@ -189,7 +189,7 @@ impl Compared {
         }
     }
 
-    // What memory is not refused to.
+    // Makes a change to which memory is not refused.
     fn change(&mut self, rt: &impl Abort, roll: usize, random: &mut Random) {
         match roll {
             0..=2 => self.write_some(rt, random),
@@ -261,7 +261,7 @@ fn run_beside(rt: &impl Abort, alloc: Global, random: &mut Random) -> Result<(),
     Ok(())
 }
 
-// So many pieces, and calls between them, as long as the end is not too far ahead.
+// Feeds this number of pieces, with calls between them, as long as the end is not too far ahead.
 fn live(rt: &impl Abort, compared: &mut Compared, random: &mut Random) {
     if random.flips() {
         say(&JOINING, &mut compared.stream);

@@ -1,4 +1,4 @@
-//! The decoder beside the plain reading of whole streams.
+//! The decoder compared with the plain reading of whole streams.
 
 use super::streams::{reads, reads_apart};
 use crate::models::page::bytes_of;

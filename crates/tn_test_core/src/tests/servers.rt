@@ -8,7 +8,7 @@ use tn_discipline::{Entry, Limit, Settings};
 use tn_option::Side;
 use tn_server::{Editing, ServerEnd, ServerFault};
 
-/// What a client of 80 by 24 that has all the options says to the opening words.
+/// The answers of a client of 80 by 24 that has all the options to the opening messages.
 const JOINING: &str = "fffb22fffb1ffffa1f00500018fff0fffd03fffb03fffd01";
 
 /// A server, to which scripts speak.
@@ -19,7 +19,7 @@ pub(super) struct Server {
     sent: Vec<u8>,
 }
 
-// A server whose terminal has standard settings, but for what this word says.
+// Starts a server whose terminal has standard settings, but for what this word changes.
 fn start(alloc: Global, word: &str, sent: &mut Vec<u8>) -> Option<ServerEnd> {
     let mut settings = Settings::standard();
     match word {
@@ -91,7 +91,7 @@ impl Server {
         count
     }
 
-    // What may be refused. Returns whether it was, for lack of memory.
+    // Makes a call that may be refused. Returns whether it was, for lack of memory.
     fn call(&mut self, words: Words<'_>, page: &mut Page) -> bool {
         self.sent.clear();
         match words.verb {
@@ -107,7 +107,7 @@ impl Server {
         }
     }
 
-    // The client joins. What is said to it was seen before.
+    // Lets the client join. The replies to it were seen before.
     fn join(&mut self) -> bool {
         let _refused = self
             .end
@@ -116,7 +116,7 @@ impl Server {
         false
     }
 
-    // What is said, or the fault.
+    // Prints the bytes that were sent, or the fault.
     fn done(&mut self, ended: Result<(), ServerFault>, page: &mut Page) -> bool {
         page.tell("sent", &mut self.sent);
         if let Err(fault) = ended {
@@ -136,7 +136,7 @@ impl Server {
         false
     }
 
-    // A piece comes. Tells whether this is what is said.
+    // Takes a piece. Returns whether these are the replies.
     fn says(&mut self, words: Words<'_>, page: &mut Page) -> bool {
         let ended = self.end.feed(&words.bytes(self.alloc), &mut self.sent);
         page.say(&(ended.is_ok() && self.sent == bytes_of(self.alloc, words.second)));
@@ -212,19 +212,18 @@ const ANSWERS: &[(&str, &str)] = &[
          sent fffa22030a8208fff0; half 61; \
          sent fffa220303020307021c08020409021a0a027f0b0215110000120000fff0; half 6108",
     ),
-    // A forward mask is sent where LINEMODE is on.
+    // A forward mask is sent if LINEMODE is on.
     (
         "mask 08; join; mask 000000000008; mask 0000; mask off; feed fffc22; mask 08; mask off",
         "NotOn; sent fffa22fd02000000000008fff0; sent fffa22fd02fff0; sent fffa22fe02fff0; sent fffe22; \
          NotOn; NotOn",
     ),
-    // A job changes characters.
-    // Where it has its ECHO, it wants it without its flag too.
+    // A job changes characters. If it has its ECHO, it wants it without its flag too.
     (
         "join; set ec 08; set el 08; set el 0d; set ao 0d; set ec 08; echo off",
         "sent fffa22030a0208fff0; Char(Taken); Char(Reserved); Char(NotSettable)",
     ),
-    // A changed character is told once LINEMODE is on.
+    // A changed character is sent once LINEMODE is on.
     (
         "set ec; feed fffb22",
         "sent fffa220303020307021c08020409021a0a00000b0215110000120000fff0",
@@ -251,13 +250,13 @@ const EDITING: &[(&str, &str)] = &[
         "join; wish local; feed fffa220107fff0fffe01fff461ffec; take; take; take",
         "true; sent fffa220103fff0fffc01; int; text 61; none",
     ),
-    // A server wants its echo where nobody else shows keys.
+    // A server wants its echo if nothing else shows keys.
     (
         "join; wish local; feed fffa220107fff0fffe01; echo off; feed fffa220100fff0; mode; \
          feed fffc22; mode",
         "true; sent fffa220103fff0fffc01; sent fffb01; sent fffa220100fff0; 3; sent fffe22; 0",
     ),
-    // A wish waits for LINEMODE.
+    // A request waits for LINEMODE.
     (
         "wish local; feed fffb22",
         "false; sent fffa220303020307021c08020409021a0a027f0b0215110000120000fff0fffa220103fff0",
@@ -267,7 +266,7 @@ const EDITING: &[(&str, &str)] = &[
         "ignoring-returns; join; wish local; feed fffa220101fff0; echo off",
         "false",
     ),
-    // A terminal with ECHONL alone echoes a new line only where the server edits.
+    // A terminal with only ECHONL echoes a new line only if the server edits.
     (
         "echoing-newlines; join; feed 610d00; pull 9; wish local; feed fffa220107fff0; feed 610d0a; pull 9",
         "1; sent 0d0a; true; sent fffa220103fff0; 0",
@@ -296,14 +295,14 @@ const JOBS: &[(&str, &str)] = &[
          feed 78797f7a0affff77; take; half",
         "int; none; Some(Int); text 610a; Some(Int); int; None; none; text 787a0a; half ff77",
     ),
-    // Commands erase and kill whoever edits.
+    // Commands erase and kill, whichever end edits.
     (
         "feed fff7; half; feed fff8; half; feed 616263fff7; half; feed fff8; half; feed 0afff76465ff; \
          half; feed f7; half; take; take; join; feed fff8616263fff7; half; option them 34; option us 34",
         "half; half; half 6162; half; half 6465; half 64; text 0a; none; half 6162; Yes; No",
     ),
-    // A server fails where its job is too far behind.
-    // The bytes after the key that is too much are not acted on, and those before it are.
+    // A server fails if its job is too far behind. The bytes after the key that is too much are not
+    // acted on, and those before it are.
     (
         "feed 0d00 1024; feed 61fffb630d00fffb63; failed; half; feed 62; wish remote; echo on; set ao; \
          waiting 1023; waiting 1024; take-lines; take; write 62; pull 99; take",

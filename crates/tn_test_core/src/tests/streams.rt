@@ -64,7 +64,7 @@ fn items_of(alloc: Global, first: &[u8], second: &[u8]) -> Option<Vec<Item>> {
     fed.is_ok().then_some(items)
 }
 
-// The same, as a sink takes them.
+// Returns the calls of a sink that reads the stream in two pieces.
 fn log_of(alloc: Global, first: &[u8], second: &[u8]) -> Option<Log> {
     let mut decoder = Decoder::new(alloc);
     let mut log = Log::new(alloc, usize::MAX);
@@ -89,14 +89,14 @@ pub(crate) fn reads_cut(
     }
 }
 
-/// The same with a cut at every place.
+/// Reads the stream with a cut at every place.
 pub(crate) fn reads(rt: &impl Abort, alloc: Global, stream: &[u8], wanted: &[Item]) {
     for at in 0..=stream.len() {
         reads_cut(rt, alloc, &stream[..at], &stream[at..], wanted);
     }
 }
 
-/// The same into a sink, byte by byte.
+/// Reads the stream into a sink, byte by byte.
 pub(crate) fn reads_apart(rt: &impl Abort, alloc: Global, stream: &[u8], wanted: &[Item]) {
     let mut decoder = Decoder::new(alloc);
     let mut log = Log::new(alloc, usize::MAX);
@@ -107,7 +107,7 @@ pub(crate) fn reads_apart(rt: &impl Abort, alloc: Global, stream: &[u8], wanted:
     assert!(rt; fed.is_err() || log.items.as_slice() == wanted);
 }
 
-// The same with cuts, and whole.
+// Reads the stream with cuts, and whole.
 fn is_read_as(rt: &impl Abort, alloc: Global, stream: &str, wanted: &[Item]) {
     let stream = bytes_of(alloc, stream);
     reads(rt, alloc, &stream, wanted);
@@ -145,7 +145,7 @@ fn a_subnegotiation_has_at_most_512_parameters(rt: HostRuntime) {
     }
 }
 
-/// Streams, where each is cut, and the calls that it makes.
+/// Streams, the place at which each is cut, and the calls that it makes.
 const RUNS: &[(&str, usize, &[usize])] = &[
     ("610a62ffff630d64", 0, &[3, 0, 1, 0, 1]),
     ("610a62ffff630d64", 1, &[1, 2, 0, 1, 0, 1]),

@@ -1,4 +1,4 @@
-//! The client's machine, told its messages one by one.
+//! The client's machine, which gets its messages one by one.
 
 use std::alloc::Global;
 use std::process::Abort;
@@ -12,7 +12,8 @@ fn piece(alloc: Global, from: Origin, bytes: &[u8]) -> Result<Told, Fail> {
     Ok(Told { from, message })
 }
 
-// The machine is told this, and writes so much to the server and to the screen.
+// Sends the machine this, which makes it write this number of bytes to the server and to the
+// screen.
 fn writes(
     rt: &impl Abort,
     alloc: Global,

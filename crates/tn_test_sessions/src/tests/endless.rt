@@ -62,7 +62,7 @@ impl Job for Ticking {
     }
 }
 
-/// Makes so many of them.
+/// A maker of this number of them.
 #[derive(Drop)]
 struct Ticks {
     left: u8,
@@ -80,7 +80,7 @@ impl Maker for Ticks {
     }
 }
 
-// The thread of the background jobs is told to stop.
+// The thread of the background jobs is asked to stop.
 #[test]
 fn a_background_job_steps_no_more_once_the_client_has_gone(rt: HostRuntime) -> Result<(), Fail> {
     let alloc = rt.alloc();
@@ -94,7 +94,7 @@ fn a_background_job_steps_no_more_once_the_client_has_gone(rt: HostRuntime) -> R
     Ok(())
 }
 
-// The thread that reads the keys is told to stop.
+// The thread that reads the keys is asked to stop.
 #[test]
 fn keys_are_read_no_more_once_the_server_has_gone(rt: HostRuntime) -> Result<(), Fail> {
     let alloc = rt.alloc();

@@ -1,4 +1,4 @@
-//! That the work goes on in several threads: each waits for what another does.
+//! Tests that the work goes on in several threads: each waits for what another does.
 
 use super::runs::{join, serve};
 use super::sessions::{ended, reaction};
@@ -15,10 +15,10 @@ use tn_jobs::{After, Job, JobId, Reaction};
 use tn_server::Editing;
 use tn_session::{Ended, Gate, Maker, Place, Report, Unwatched};
 
-/// How many turns a wait takes at most.
+/// The most turns of a wait.
 const MAX_TURNS: u32 = 1_048_576;
 
-/// What the threads tell each other.
+/// The flags that the threads set for each other.
 #[derive(Drop)]
 struct Flags {
     entry: AtomicBool,
@@ -32,7 +32,7 @@ impl Flags {
     }
 }
 
-// Waits for a flag, and tells where that takes too long.
+// Waits for a flag, and sets `stuck` if that takes too long.
 pub(super) fn wait(flag: &AtomicBool, stuck: &AtomicBool) {
     for _turn in 0..MAX_TURNS {
         if flag.load(Ordering::SeqCst) {
@@ -113,7 +113,7 @@ impl Maker for Two {
     }
 }
 
-/// Tells once the background job's text was handled.
+/// A gate that sets a flag once the background job's text was handled.
 #[derive(Drop)]
 struct Telling {
     flags: Arc<Flags, Global>,
@@ -164,7 +164,7 @@ fn a_session_runs_on_several_threads(rt: HostRuntime) -> Result<(), Fail> {
     Ok(())
 }
 
-/// What the two readers of a client tell each other.
+/// The flags that the two readers of a client set for each other.
 #[derive(Drop)]
 struct Meeting {
     keys: AtomicBool,

@@ -1,4 +1,4 @@
-//! How many jobs a session makes.
+//! The number of jobs that a session makes.
 
 use super::runs::serve;
 use super::sessions::Echo;

@@ -25,7 +25,7 @@ fn start(alloc: Global, editing: Editing) -> Result<Joined, Fail> {
     }
 }
 
-// So much comes to the server and to the client, turn and turn about.
+// Lets this number of bytes come to the server and to the client, turn and turn about.
 fn carry(joined: &mut Joined, alloc: Global, count: usize, times: usize) -> Result<(), Fail> {
     for _ in 0..times {
         joined.happen(alloc, LoopEvent::ToServer(count))?;
@@ -76,7 +76,7 @@ fn one_loop_reads_what_is_typed_wherever_it_is_edited(rt: HostRuntime) -> Result
     Ok(())
 }
 
-// Whether nothing is read though a line is typed and asked for.
+// Returns whether nothing is read though a line is typed and asked for.
 fn reads_nothing(joined: &mut Joined, alloc: Global) -> Result<bool, Fail> {
     joined.happen(alloc, LoopEvent::Take)?;
     joined.happen(alloc, LoopEvent::Typed(text_of(alloc, b"hi\r")?))?;

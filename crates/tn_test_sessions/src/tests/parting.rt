@@ -11,10 +11,10 @@ use tn_discipline::Settings;
 use tn_server::Editing;
 use tn_session::{Ended, Unwatched};
 
-/// How many opening words a session writes.
+/// The length of the opening messages that a session writes.
 const OPENING: usize = 15;
 
-/// Gives nothing, and has last words.
+/// A reader that gives nothing, and has last words.
 #[derive(Drop)]
 struct Parting;
 
@@ -30,7 +30,8 @@ impl Source for Parting {
     }
 }
 
-// Before or behind the GA of the job that asks for an entry, unless that comes too late.
+// The text comes before or after the GA of the job that asks for an entry, unless that comes too
+// late.
 fn is_said_once(out: &[u8]) -> bool {
     let words = b"so long\r\n".as_slice();
     out.len() <= words.len() + 2 && (out.starts_with(words) || out.ends_with(words))

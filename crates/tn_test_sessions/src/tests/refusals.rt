@@ -16,8 +16,8 @@ use tn_discipline::Settings;
 use tn_server::{Editing, ServerFault};
 use tn_session::{Ended, Finish, Report, SessionFault, Unwatched};
 
-/// Gives some bytes at once, then fails so many times, and then ends; it foretells how many of its calls will
-/// fail.
+/// A reader that gives some bytes at once, then fails this number of times, and then ends; it
+/// foretells how many of its calls will fail.
 #[derive(Drop)]
 struct Once {
     bytes: &'static [u8],
@@ -54,8 +54,8 @@ impl Source for Once {
     }
 }
 
-/// Takes what it is given, but for one call, which fails or takes nothing; it tells how many of its calls
-/// failed.
+/// A writer that takes all but one call, which fails or takes nothing; it reports how many of its
+/// calls failed.
 #[derive(Drop)]
 struct Failing {
     taken: Vec<u8>,
@@ -96,7 +96,7 @@ impl Finish for Failing {
     fn finish(&mut self) {}
 }
 
-/// The opening words, the line, and GA.
+/// The opening messages, the line, and GA.
 const WHOLE: [u8; 20] = [
     255, 253, 34, 255, 253, 31, 255, 251, 3, 255, 253, 3, 255, 251, 1, 97, 13, 10, 255, 249,
 ];
@@ -128,7 +128,7 @@ fn writer(alloc: Global, before: u32, takes_none: bool) -> Failing {
     }
 }
 
-// How a session may end where an allocation was refused.
+// Returns whether a session may end so if an allocation was refused.
 fn is_refused(answer: &Result<Report, SessionFault>) -> bool {
     match answer {
         Err(fault) => matches!(
@@ -146,8 +146,8 @@ fn is_refused(answer: &Result<Report, SessionFault>) -> bool {
     }
 }
 
-// The session ends so and writes all; where an allocation was refused, a second one does, and the first
-// has written a front.
+// The session ends so and writes all; if an allocation was refused, a second one does, and the
+// first has written a front.
 fn ends<R: Abort + Threads + Wait + Copy + Send + 'static>(
     rt: R,
     alloc: Global,
@@ -160,7 +160,7 @@ fn ends<R: Abort + Threads + Wait + Copy + Send + 'static>(
         if answer == Ok(ended(how, 1, 1, 0)) && writer.taken.as_slice() == WHOLE.as_slice() {
             return;
         }
-        // After a failed read a refusal is not told any more: the first fault counts.
+        // After a failed read a refusal is not reported any more: the first fault counts.
         let failed = failures > 0 && answer == Ok(ended(how, 1, 1, 0));
         assert!(rt; failed || is_refused(&answer), "{answer:?}");
         assert!(rt; WHOLE.starts_with(writer.taken.as_slice()));
@@ -178,7 +178,8 @@ fn a_session_ends_where_its_input_does(rt: HostRuntime) {
     ends(rt, rt.alloc(), 0, Ended::HangUp);
 }
 
-// Whether a write failed, the one behind so many; or it is not known, where an allocation was refused.
+// Returns whether a write failed, the one after this number; or it is not known, if an allocation
+// was refused.
 fn fails_to_write<R: Abort + Threads + Wait + Copy + Send + 'static>(
     rt: R,
     alloc: Global,

@@ -57,7 +57,7 @@ impl Job for Echo {
     }
 }
 
-/// Makes so many jobs.
+/// A maker of this number of jobs.
 #[derive(Drop)]
 pub(super) struct Jobs {
     pub(super) left: u8,
@@ -100,7 +100,7 @@ pub(crate) fn ended(ended: Ended, pieces: u64, entries: u64, stops: u64) -> Repo
     }
 }
 
-// A session with one job writes so much after its opening words, and ends so.
+// A session with one job writes this number of bytes after its opening messages, and ends so.
 fn writes<R: Abort + Threads + Wait + Copy + Send + 'static>(
     rt: R,
     alloc: Global,
@@ -116,7 +116,8 @@ fn writes<R: Abort + Threads + Wait + Copy + Send + 'static>(
     Ok(())
 }
 
-/// What is typed, what a session writes then, whether its job ended it, and how many jobs were stopped.
+/// The bytes that are typed, those that a session writes then, whether its job ended it, and how
+/// many jobs were stopped.
 const TYPED: &[(&[u8], &[u8], Ended, u64)] = &[
     (b"a\r\0", b"a\r\n\xff\xf9", Ended::HangUp, 0),
     (b"\x03", b"int\r\n\xff\xf9", Ended::HangUp, 0),

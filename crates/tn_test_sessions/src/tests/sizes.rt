@@ -15,7 +15,7 @@ use std::thread::Threads;
 use tn_cores::streams::{Control, Source, WindowSize, nothing_to_say};
 use tn_session::{Ended, Gate, Place};
 
-/// What the two readers of a client tell each other.
+/// The flags that the two readers of a client set for each other.
 #[derive(Drop)]
 struct Meeting {
     asked: AtomicBool,
@@ -47,7 +47,7 @@ impl Read for Asking {
     }
 }
 
-/// Tells once the network's piece was sent on.
+/// A gate that sets a flag once the network's piece was sent on.
 #[derive(Drop)]
 struct Telling {
     meeting: Arc<Meeting, Global>,
@@ -61,8 +61,8 @@ impl Gate for Telling {
     }
 }
 
-/// Tells one size before each of its first keys, once the server has asked for it, and what is asked for
-/// before each.
+/// A reader that reports one size before each of its first keys, once the server has asked for it,
+/// and a request before each.
 #[derive(Drop)]
 struct Window {
     meeting: Arc<Meeting, Global>,

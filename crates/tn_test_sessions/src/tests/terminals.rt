@@ -1,4 +1,4 @@
-//! The terminal's machine, told its messages one by one.
+//! The terminal's machine, which gets its messages one by one.
 
 use std::alloc::Global;
 use std::process::Abort;
@@ -9,12 +9,13 @@ use tn_discipline::{Entry, Limit, Settings, Text};
 use tn_jobs::{After, JobId, Table};
 use tn_server::Editing;
 
-/// The opening words, the text `a` with a new line, and GA. The client has not let the server echo.
+/// The opening messages, the text `a` with a new line, and GA. The client has not let the server
+/// echo.
 const WRITTEN: [u8; 20] = [
     255, 253, 34, 255, 253, 31, 255, 251, 3, 255, 253, 3, 255, 251, 1, 97, 13, 10, 255, 249,
 ];
 
-// A terminal with one job in the foreground, and what it says first.
+// Starts a terminal with one job in the foreground, and returns its opening messages.
 fn started(alloc: Global) -> Result<(Term, JobId, Vec<u8>), Fail> {
     let mut table = Table::new(alloc);
     let job = table.add()?;
@@ -29,7 +30,7 @@ fn text(alloc: Global, bytes: &[u8]) -> Result<Text, Fail> {
     Ok(Text::from(Vec::from_slice(alloc, bytes)?))
 }
 
-// Tells the terminal one message, and keeps what it appends.
+// Sends the terminal one message, and keeps what it appends.
 fn tell(alloc: Global, term: &mut Term, message: Message, sent: &mut Vec<u8>) -> Result<Put, Fail> {
     let mut out = Vec::new(alloc);
     let outcome = term.handle(message, &mut out);
@@ -73,7 +74,8 @@ fn a_terminal_writes_a_line_back(rt: HostRuntime) -> Result<(), Fail> {
     writes_it_back(&rt, rt.alloc(), &mut term, job, &mut sent)
 }
 
-/// What is sent after the opening words: `a`, which is echoed, the prompt, and `c`, which is echoed again.
+/// The bytes that are sent after the opening messages: `a`, which is echoed, the prompt, and `c`,
+/// which is echoed again.
 const SHOWN: [u8; 4] = [97, 63, 32, 99];
 
 fn says(job: JobId, text: Text, after: After) -> Message {

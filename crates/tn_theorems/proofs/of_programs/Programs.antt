@@ -16,7 +16,7 @@ use Rattle.tn_nvt.specs.Prefixes.{IsPrefixOf}
 abbrev socket : KnownReader
 socket = record { bytes = None; failures = None; sizes = Some []; words = no_words }
 
--- what a writer that held nothing holds
+-- the content of a writer that held nothing
 all_held : (after : Option (List ℕ)) (bytes : List ℕ) → Appends (Some []) after bytes → Some bytes ≡ after
 all_held None bytes a = absurd a
 all_held (Some xs) bytes a = ap Some (sym a)
@@ -61,7 +61,7 @@ module _ {J : Type 0} (facts : JobFacts J) (headline : Headline facts) (p : Prog
   all_typeable [] = All-nil (λ input. HasKey (terminal_of p.options).canon.settings input)
   all_typeable (input ∷ inputs) = All-cons (λ x. HasKey (terminal_of p.options).canon.settings x) input inputs (has_key input) (all_typeable inputs)
 
-  -- the same of any client's session
+  -- the bytes that any client's session read
   record Reads (limit : ℕ) (c : Client limit) : Type 0 where
     pub prefix : IsPrefixOf served.ran.entries_taken (local_entries c.inputs)
     pub all : p.conversed.report.ended ≡ HangUp → p.connected.report.ended ≡ HangUp → all_read served.ran.transcript ≡ all_wrote c.transcript

@@ -1,4 +1,4 @@
--- After each step of a transcript all is written that is said by then.
+-- After each step of a transcript all is written that was sent by then.
 use Rattle.std.proofs.Common.{◌≡◌, ◌⊎◌, inl, inr, ℕ, List, [], ◌∷◌, ◌++◌, refl, sym, ap, ◌∙◌, map, append_assoc, length, suc}
 use Rattle.std.specs.List.{FoldsTo}
 use Rattle.tn_discipline.specs.Canon.{Canon}
@@ -22,7 +22,7 @@ record SoFar {R M : Type 0} (turns : R → M → R → Type 0) (says : R → Lis
   answered : (first.wrote ++ all_wrote done ≡ says by_then) ⊎ (first.wrote ++ all_wrote done ≡ written)
 
 module _ {R M : Type 0} (turns : R → M → R → Type 0) (brings : M → List ℕ) (says : R → List ℕ) (written : List ℕ) where
-  -- what the steps wrote is what is written by then
+  -- the bytes that the steps wrote are all that is written by then
   either : (a b c d : List ℕ) → a ≡ b → (b ≡ c) ⊎ (b ≡ d) → (a ≡ c) ⊎ (a ≡ d)
   either a b c d e (inl f) = inl (e ∙ f)
   either a b c d e (inr f) = inr (e ∙ f)

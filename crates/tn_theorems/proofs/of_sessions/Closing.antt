@@ -1,4 +1,4 @@
--- In a client's session no key and no command comes once what the client says goes nowhere.
+-- In a client's session no key and no command comes once what the client sends goes nowhere.
 use Rattle.std.proofs.Common.{◌≡◌, ℕ, Bool, true, false, Option, List, [], ◌∷◌, ◌++◌, refl, sym, ap, ◌∙◌, subst, map, ⊎_elim}
 use Rattle.tn_client.specs.Events.{History, next, resized, gets}
 use Rattle.tn_client.specs.Events as client
@@ -116,7 +116,7 @@ turn_typed c new x mark.ShowFailed a may t = stood a.1 new (ap (λ (r : Run). r.
 turn_typed c new x (mark.Refused f) a may t = stood a.1 new (ap (λ (r : Run). r.sent) a.3) (ap (λ (r : Run). r.history) a.3)
     (λ o. sym (ap (λ (r : Run). r.progress.closed) a.3) ∙ o) (handles c.progress.over c a.1 x a.2 may t)
 
--- what leaves the network open
+-- a message that leaves the network open
 abbrev IsOpen : Origin → Message → Type 0
 IsOpen Keys Left = ⊥
 IsOpen _ _ = Unit {0}
@@ -157,7 +157,7 @@ tolds ms = map (λ m. m.0) ms
 typed_as : (c new : Run) → c ≡ new → Typed c → Typed new
 typed_as c new e t = subst (λ (r : Run). Typed r) e t
 
--- where no key comes any more
+-- if no key comes any more
 record NoneFirst (closed : Bool) (from : Origin) (m : Message) (ms : List Message) : Type 0 where
   may : MayType closed from m
   later : NoInput ms
@@ -180,7 +180,7 @@ run_closed ((x, k) ∷ marked) c new r n t =
     let f = none_first c.progress.closed x.from x.message (keys_messages (tolds marked)) n in
     run_closed marked r.0 new r.2 f.later (turn_typed c r.0 x k r.1 f.may t)
 
--- while they may
+-- messages that come while keys may
 pub data First (from : Origin) (m : Message) (ms : List Message) : Type 0 where
   last : NoInput ms → First from m ms
   more : IsOpen from m → LeftLast ms → First from m ms
@@ -209,7 +209,7 @@ run_typed ((x, k) ∷ marked) c new r open_now l t = go (first_of_keys x.from x.
     go (last n) u later = run_closed marked r.0 new r.2 n u
     go (more is l) u later = later (turn_open c r.0 x k is r.1 ∙ open_now) l u
 
--- what Keys sends
+-- the messages that Keys sends
 told_last : (told : List Telling) (close : List Message) → LeftLast close → LeftLast (told_messages told ++ close)
 told_last [] close l = l
 told_last (piece_told p ∷ told) close l = told_last told close l

@@ -1,4 +1,4 @@
--- Two sessions whose transcripts a socket carries: a line is typed, heard and taken, and both hang up.
+-- Two sessions whose transcripts a socket carries: a line is typed, read and taken, and both hang up.
 use Rattle.std.proofs.Common.{◌≡◌, ℕ, zero, suc, inl, true, false, Option, Some, None, List, [], ◌∷◌, ◌++◌, refl, sym, ap, ◌∙◌, subst, map, append-nil}
 use Rattle.std.proofs.{Common.{append_assoc, arith, lit<}, lemmas.List.Elements.{All-nil, All-cons}}
 use Rattle.tn_client.specs.Screen.{text_shown}
@@ -37,7 +37,7 @@ use Rattle.tn_cores.specs.declared.server.messages.ServerMark as term_mark
 use Rattle.tn_cores.specs.declared.server.messages.ServerMark.TheVariants as term_is
 use Rattle.tn_linemode.specs.Prefixes.{IsRead}
 
--- what the server's terminal hears
+-- the bytes that the server's terminal reads
 abbrev bytes : List ℕ
 bytes = 97 ∷ 13 ∷ 0 ∷ []
 
@@ -58,7 +58,7 @@ is_read = (
   },
 )
 
--- WHERE ALL THAT ONE WROTE IS ALL THAT THE OTHER READ, THE OTHER WAY ROUND NOTHING
+-- IF ALL THAT ONE WROTE IS ALL THAT THE OTHER READ, AND NOTHING WENT THE OTHER WAY
 abbrev clients_first : List Exchange → List Exchange → List Step
 clients_first [] ss = map served ss
 clients_first (x ∷ cs) ss = told x ∷ clients_first cs ss
@@ -80,7 +80,7 @@ nothing_first : (xs ys : List ℕ) → xs ++ ys ≡ [] → xs ≡ []
 nothing_first [] ys e = refl
 nothing_first (x ∷ xs) ys e = cc
 
--- the server's part alone
+-- the front of an order of the server's steps has none of the client
 read_first : (ss : List Exchange) (done later : List Step) → map served ss ≡ done ++ later → (client_steps done ≡ [])
     × IsPrefixOf (all_read (server_steps done)) (all_read ss)
 read_first ss [] later e = (refl, (all_read ss, refl))
@@ -91,7 +91,7 @@ read_first (x ∷ ss) (d ∷ done) later e =
     let P : Step → Type 0 = λ s. (client_steps (s ∷ done) ≡ []) × IsPrefixOf (all_read (server_steps (s ∷ done))) (x.read ++ all_read ss) in
     subst P h.0 (r.0, (r.1.0, append_assoc x.read (all_read (server_steps done)) r.1.0 ∙ ap (λ (l : List ℕ). x.read ++ l) r.1.1))
 
--- what came before: so much was written by the client
+-- the steps before: this much was written by the client
 timely : (cs ss : List Exchange) (wrote : List ℕ) → all_read ss ≡ wrote ++ all_wrote cs → all_read cs ≡ [] → (done later : List Step)
     → clients_first cs ss ≡ done ++ later
     → IsPrefixOf (all_read (server_steps done)) (wrote ++ all_wrote (client_steps done)) × (all_read (client_steps done) ≡ [])

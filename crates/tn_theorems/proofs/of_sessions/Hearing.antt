@@ -1,4 +1,4 @@
--- What is heard in time are the first of the items that were said.
+-- The items that were read in time are the first of those that were sent.
 use Rattle.std.proofs.Common.{◌≡◌, ℕ, List, [], sym, subst}
 use Rattle.std.specs.Prelude.{All}
 use Rattle.tn_nvt.proofs.lemmas.Reading.{reads_on, reads_spelled, one_reading}

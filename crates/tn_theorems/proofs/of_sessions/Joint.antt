@@ -21,13 +21,13 @@ pub data Step : Type 0 where
   served : Message × term_mark.ServerMark → Step
   told : Told × core_mark.ClientMark → Step
 
--- what the terminal handled, in order
+-- the messages that the terminal handled, in order
 abbrev pub server_steps : List Step → List (Message × term_mark.ServerMark)
 server_steps [] = []
 server_steps (served m ∷ order) = m ∷ server_steps order
 server_steps (told m ∷ order) = server_steps order
 
--- and what the core did
+-- the messages that the core handled, in order
 abbrev pub client_steps : List Step → List (Told × core_mark.ClientMark)
 client_steps [] = []
 client_steps (served m ∷ order) = client_steps order
@@ -38,8 +38,8 @@ pub record Both : Type 0 where
   pub server : term_run.Run
   pub client : core_run.Run
 
--- before the first step: the opening words were written or not, and a line has at most `limit` bytes at the
--- client
+-- before the first step: the opening messages were written or not, and a line has at most `limit` bytes at
+-- the client
 abbrev pub began : Bool → Canon → Editing → Jobs → ℕ → ℕ → ℕ → Both
 began opens canon editing jobs width height limit =
     record {
@@ -47,27 +47,27 @@ began opens canon editing jobs width height limit =
       client = core_run.start width height limit;
     }
 
--- each by its own steps
+-- both machines run, each by its own steps
 abbrev pub Runs : Both → List Step → Both → Type 0
 Runs first order now =
     term.Runs first.server (server_steps order) now.server
     × core.Runs first.client (client_steps order) now.client
 
--- all that each has said on the network
+-- all that each has sent on the network
 abbrev pub server_said : Both → List ℕ
 server_said now = spells (server_says.items_said now.server.history)
 
 abbrev pub client_said : Both → List ℕ
 client_said now = spells (client_says.items_said now.client.sent)
 
--- The stream that each end has got so far begins what the other has said so far: nothing was lost, added or
--- turned round on the way, and no byte came before it was said.
+-- The stream that each end has got so far begins what the other has sent so far: nothing was lost, added or
+-- reordered on the way, and no byte came before it was sent.
 pub record IsInTime (now : Both) : Type 0 where
   pub to_server : IsPrefixOf now.server.stream (client_said now)
   pub to_client : IsPrefixOf now.client.stream (server_said now)
 
--- THE SENTENCE, of what both runs tell: the entries of the server, and those of one local terminal for the
--- keys that were typed, and the commands sent, while what the client said went to the network.
+-- THE THEOREM, of the facts of both runs: the entries of the server, and those of one local terminal for the
+-- keys that were typed, and the commands sent, while what the client sent went to the network.
 pub record LinesAreLocal (canon : Canon) (now : Both) : Type 0 where
   pub prefix : IsPrefixOf (entries now.server.history) (typed_entries canon (keys_typed canon.settings now.client.sent))
   pub complete : now.server.stream ≡ client_said now

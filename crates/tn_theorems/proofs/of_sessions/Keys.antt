@@ -1,4 +1,4 @@
--- Of keys and commands, those that a reader gives and those that were read, and what more of them add.
+-- The keys and commands that a reader gives and those that were read, and what more of them add.
 use Rattle.std.proofs.Common.{◌≡◌, ℕ, Bool, true, All, Option, Some, None, option_to_list, List, [], ◌∷◌, ◌++◌, map, refl, sym, ap, ◌∙◌, subst, append_assoc}
 use Rattle.std.proofs.{Common.append-nil, lemmas.{Grind.flat_map-append, List.Elements.{All-nil, All-cons, All-head, All-tail, All-pop}}}
 use Rattle.std.specs.Io.KnownBytes.{Consumes}
@@ -17,7 +17,7 @@ use Rattle.tn_session.specs.declared.workers.mail.Sender.TheVariants as who
 use Rattle.tn_world.proofs.lemmas.Histories.{AreTypeable, keys_typed}
 use Rattle.tn_world.specs.Commands.{IsTypeable, key_for, key_if, interrupt_key}
 
--- of what a reader gives, these bytes come first
+-- these bytes come first in what a reader gives
 pub given_first : (all : List ℕ) (left : Option (List ℕ)) (first later bytes : List ℕ) → bytes ≡ first ++ later → Consumes (Some all) left bytes
     → (more : List ℕ) × (all ≡ first ++ more)
 given_first all None first later bytes e c = absurd c
@@ -44,7 +44,7 @@ one_list a b e = is_some a b (ap (λ (v : View). v.keys) e)
 pub keys_of-append : (s : Settings) (xs ys : List Input) → keys_of s (xs ++ ys) ≡ keys_of s xs ++ keys_of s ys
 keys_of-append s xs ys = flat_map-append (key_of s) xs ys
 
--- the standard key INTR interrupts, where ISIG is set
+-- the standard key INTR interrupts, if ISIG is set
 interrupts : (flags : Flags) → flags.isig ≡ true → interrupt_key (record { flags = flags; chars = standard_characters }) ≡ Some 3
 interrupts flags isig = ap (λ (b : Bool). key_if (role_by_signal b (Some Int) 3) 3) isig
 
@@ -91,7 +91,7 @@ module _ (s : Settings) (standard : s.chars ≡ standard_characters) where
   typed_as (next k (resized width height)) all = typed_as k all
   typed_as (next k (proposed func value)) all = typed_as k all
 
-  -- and each command has its key there
+  -- each command that the client sends has its key at the server
   pub typeable : (k : History) → HaveKeys (inputs k) → AreTypeable s k
   typeable (begun width height limit) all = tt
   typeable (next k (client.typed key)) all = typeable k (last_of (inputs k) (key_typed key) all).0

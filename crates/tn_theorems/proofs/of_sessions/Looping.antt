@@ -1,4 +1,4 @@
--- What one loop brings about: after each event all bytes are carried, in one order.
+-- The effect of one loop: after each event all bytes are carried, in one order.
 use Rattle.std.proofs.Common.{◌≡◌, ◌⊎◌, inl, inr, ℕ, All, Bool, true, false, Option, Some, None, List, [], ◌∷◌, ◌++◌, refl, sym, ap, ◌∙◌, subst, map}
 use Rattle.std.proofs.{Common.{append_assoc, append-nil}, lemmas.{List.map-append, Fn.FoldsTo-push}}
 use Rattle.std.specs.List.{FoldsTo}
@@ -79,7 +79,7 @@ in_time_more order x before now done later e = go (first_or_all order x done lat
     go (inl m) = before done m.0 m.1
     go (inr m) = subst (λ (d : List Step). IsInTime (server_steps d) (client_steps d)) (sym m) now
 
--- what has come is the first of what was written, where the rest is on its way
+-- the bytes that have come are the first of those that were written, if the rest is on its way
 in_time_by : (order : List Step) (to_server to_client : List ℕ) → all_wrote (client_steps order) ≡ all_read (server_steps order) ++ to_server
     → all_wrote (server_steps order) ≡ all_read (client_steps order) ++ to_client → IsInTime (server_steps order) (client_steps order)
 in_time_by order to_server to_client e f = record { to_server = (to_server, sym e); to_client = (to_client, sym f) }
@@ -331,7 +331,7 @@ module _ (canon : Canon) (editing : Editing) (jobs : Jobs) (width height : ℕ) 
       subst (λ (l : List Input). Here l new) (append_assoc typed (inputs_by event) (inputs_of events))
       (all_happen (typed ++ inputs_by event) events goes.0 new one goes.2)
 
-  -- THE SENTENCE
+  -- THE THEOREM
   said_at_first : IsUpTo term.Turns terms.says terms.is_over terms.is_marked_whole first_server opening
   said_at_first = (([], append-nil opening), inl refl)
 

@@ -26,7 +26,7 @@ module _ {J : Type 0} (facts : JobFacts J) (canon : Canon) (s : Served facts can
   abbrev last : Both
   last = record { server = s.ran.schedule.run; client = c.ran.run }
 
-  -- what was typed while replies went to the network is all that was typed
+  -- the inputs that were typed while replies went to the network are all that were typed
   same_inputs : inputs c.ran.run.sent ≡ inputs c.ran.run.history
   same_inputs =
       let typed = c.ran.typed in
@@ -34,7 +34,7 @@ module _ {J : Type 0} (facts : JobFacts J) (canon : Canon) (s : Served facts can
       inputs_sent c.width c.height canon.limit c.ran.marked c.ran.run c.ran.handled _ typed.0 typed.1 _ typed.2 c.ran.runs c.ran.messages
       (c.ran.woven who.Keys ∙ sent) (plainly _ c.keys.reader (pieces_in typed.0) typed.1 typed.2 typed.4)
 
-  -- it is the first of what was read
+  -- the inputs of the history come first in what was read
   first_read : c.ran.inputs ≡ inputs c.ran.run.history ++ c.ran.in_order.untyped
   first_read = c.ran.inputs_are ∙ c.ran.in_order.typed
 
@@ -44,7 +44,7 @@ module _ {J : Type 0} (facts : JobFacts J) (canon : Canon) (s : Served facts can
       let first = first_of_all (λ input. HasKey canon.settings input) (inputs c.ran.run.history) c.ran.in_order.untyped (subst Here first_read typed_there) in
       subst Here (sym same_inputs) first
 
-  -- where both runs led, the lines are local
+  -- the lines are local after both runs
   lines : LinesAreLocal canon last
   lines =
       let schedule = s.ran.schedule in
@@ -81,7 +81,7 @@ module _ {J : Type 0} (facts : JobFacts J) (canon : Canon) (s : Served facts can
       (prefix_trans h ks (typed_entries canon (keys_at canon c)) mid
       (more_entries canon typed_first (keys_of canon.settings c.ran.in_order.untyped) (keys_at canon c) keys_first))
 
-  -- all that a client wrote is all that it says, where it ended without a fault
+  -- all that a client wrote is all that it sends, if it ended without a fault
   all_said : c.result.report.ended ≡ HangUp → all_wrote c.ran.transcript ≡ client_said last
   all_said ended =
       let on = goes_on_to_end c.width c.height canon.limit c.ran.marked c.ran.run c.ran.runs (sym (ap (λ (r : Report). r.ended) c.ran.report_is) ∙ ended) in

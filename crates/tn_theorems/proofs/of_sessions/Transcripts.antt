@@ -46,7 +46,7 @@ ServerMarked = Message × term_mark.ServerMark
 abbrev ClientMarked : Type 0
 ClientMarked = Told × core_mark.ClientMark
 
--- what the messages of some steps brought
+-- the bytes that the messages of some steps brought
 abbrev server_brought : List runs.Step → List ℕ
 server_brought done = heard (map (λ m. m.0) (runs.server_steps done))
 
@@ -114,7 +114,7 @@ module _ (canon : Canon) (editing : Editing) (width height : ℕ) (opens : Bool)
     client_said : IsPrefixOf c.wrote (of_client.says c.run)
     at : Holds (record { server = s.run; client = c.run })
 
-  -- what each run has got so far was said
+  -- the bytes that each run has got so far were sent
   in_time : (done : List runs.Step) (now : Both) (s c : List Exchange) → Runs start done now → server_brought done ≡ all_read s
       → client_brought done ≡ all_read c
       → IsPrefixOf (all_wrote s) (runs.server_said now) → IsPrefixOf (all_wrote c) (runs.client_said now) → IsInTime s c → runs.IsInTime now
@@ -128,7 +128,7 @@ module _ (canon : Canon) (editing : Editing) (width height : ℕ) (opens : Bool)
             (prefix_trans (all_read c) (all_wrote s) (runs.server_said now) i.to_client ws);
       }
 
-  -- the opening words
+  -- the opening messages
   opened : (steps : List Step) (s new : Point term_run.Run) (c : Point core_run.Run) (written : List ℕ) (x : Exchange)
       → IsExchange of_server.OpensOrTurns of_server.brings of_server.says written s (None, x) new → Here steps s c → Here (steps ++ served x ∷ []) new c
   opened steps s new c written x step here =
@@ -185,7 +185,7 @@ module _ (canon : Canon) (editing : Editing) (width height : ℕ) (opens : Bool)
         at = server_goes canon editing width height opens jobs Tied ties here.done now m k new.run r timely step.turn here.at;
       }
 
-  -- and one at the core
+  -- a message at the core
   told_on : (steps : List Step) (s : Point term_run.Run) (c new : Point core_run.Run) (written : List ℕ) (m : Told) (k : core_mark.ClientMark) (x : Exchange)
       → IsExchange core.Turns of_client.brings of_client.says written c ((m, k), x) new
       → IsInTime (server_steps (steps ++ told x ∷ [])) (client_steps (steps ++ told x ∷ [])) → Here steps s c → Here (steps ++ told x ∷ []) s new

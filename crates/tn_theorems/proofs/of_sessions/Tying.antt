@@ -1,5 +1,5 @@
--- tn_world's relation, said of two histories, is such a relation from the opening on, where each command stands for a
--- key.
+-- The relation of tn_world, stated of two histories, is such a relation from the opening on, if each command
+-- stands for a key.
 use Rattle.std.proofs.Common.{◌≡◌, ℕ, length}
 use Rattle.tn_client.specs.Events as client
 use Rattle.tn_discipline.specs.{Canon.Canon, Characters.standard_characters}

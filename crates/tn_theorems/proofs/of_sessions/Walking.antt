@@ -24,8 +24,8 @@ use Rattle.tn_cores.specs.server.Marks as term
 use Rattle.tn_cores.specs.server.Run as term_run
 use Rattle.tn_cores.specs.declared.server.messages.ServerMark as term_mark
 
--- WHAT IS NEEDED OF TWO HISTORIES: these hold of the opening, and each event of a terminal or a core keeps them, an
--- item coming only in the order in which it was said.
+-- WHAT IS NEEDED OF TWO HISTORIES: these hold of the opening, and each event of a terminal or a core keeps
+-- them, if an item comes only in the order in which it was sent.
 pub record Ties (canon : Canon) (editing : Editing) (width height : ℕ) (Tied : server.History → client.History → Type 0) : Type 0 where
   pub begins : Tied (term_run.opening canon editing) (client.begun width height canon.limit)
   pub reaches : (h : server.History) (k : client.History) (x : Item) → IsPrefixOf (server.items h ++ x ∷ []) (client_says.items_said k) → Tied h k
@@ -80,7 +80,7 @@ module _ (canon : Canon) (editing : Editing) (width height : ℕ) (opens : Bool)
         }) now.server mid m k t (server_heard (done ++ served (m, k) ∷ []) (record { server = mid; client = now.client }) r i) at.tied;
       }
 
-  -- and one of the core
+  -- one step of the core
   pub client_goes : (done : List Step) (now : Both) (x : Told) (k : core_mark.ClientMark) (mid : core_run.Run)
       → Runs first (done ++ told (x, k) ∷ []) (record { server = now.server; client = mid }) → IsInTime (record { server = now.server; client = mid })
       → core.Turns now.client (x, k) mid → At now → At (record { server = now.server; client = mid })

@@ -1,4 +1,4 @@
--- Where a client's session ends without a fault, nothing stopped having its effect.
+-- If a client's session ends without a fault, nothing stopped having its effect.
 use Rattle.std.proofs.Common.{◌≡◌, ℕ, Bool, true, false, List, [], ◌∷◌, refl, sym, ap, ◌∙◌, subst}
 use Rattle.tn_cores.specs.{client.{Marks.{Turns, Runs}, Run.{Run, Acts, ActsUnless, start}}, declared.client.messages.{ClientMark.ClientMark, Origin.Origin}}
 use Rattle.tn_cores.specs.{declared.{client.messages.{Origin.TheVariants.{Keys, Net}, Told.Told}, faults.Ended.Ended}, Counting.first_end}
@@ -8,7 +8,7 @@ use Rattle.tn_cores.specs.declared.client.messages.ClientMark.TheVariants as mar
 use Rattle.tn_cores.specs.declared.faults.Ended.TheVariants as ended
 use Rattle.tn_cores.specs.declared.faults.SessionFault.TheVariants as fault
 
--- WHAT FAILED IS TOLD
+-- A FAILURE IS REPORTED
 abbrev ended_of : Run → Ended
 ended_of c = c.progress.ended
 

@@ -1,4 +1,4 @@
--- What holds of each state that a client's session can reach, and that each step keeps it.
+-- The facts that hold of each state that a client's session can reach, and that each step keeps.
 use Rattle.std.proofs.Common.{arith, ◌≡◌, ℕ, ◌+◌, ◌*◌, ◌≤◌, sym, subst}
 use Rattle.tn_theorems.specs.progress.{Server.one, Client.{Sending, sent_all, State}}
 use Rattle.tn_theorems.specs.progress.Client.{Sizes, waiting_mails, Net, net_gone, Keys, typing, keys_hands, keys_gone, Core, putting, closing, joining, ended}

@@ -1,4 +1,5 @@
--- Each step that a thread of a client's session makes by itself is one towards where nothing goes on by itself.
+-- Each step that a thread of a client's session makes by itself is one towards a state in which no thread
+-- goes on by itself.
 use Rattle.std.proofs.Common.{arith, ℕ, ◌+◌, ◌*◌, ◌<◌, ◌≤◌, Bool, true, false, ap}
 use Rattle.tn_theorems.specs.progress.Client.{Net, net_hands, net_tells, net_leaves, Keys, held, typing, keys_hands, looking, keys_tells, keys_leaves}
 use Rattle.tn_theorems.specs.progress.Client.{keys_gone, Core, receiving, putting, closing, joining, Sending, sent_all, State, Sizes, waiting_mails}
@@ -35,7 +36,7 @@ abbrev pub unput : Bool → ℕ
 unput true = 0
 unput false = 3
 
--- how many steps of its own a session has before it at most
+-- the most steps of its own that a session has before it
 abbrev pub size : State → ℕ
 size s =
     net_size s.net + keys_size s.typist + core_size s.core + sending_size s.sending + unput s.is_put + s.writes + s.ends + 4 * waiting_mails s.box

@@ -49,7 +49,7 @@ by_sending sizes s discards zero at e (inl f) g = cc
 by_sending sizes s discards zero at e (inr f) g = goes_by sizes s drops_end (at, e, omega arith)
 by_sending sizes s sent_all writes at e f g = g refl
 
--- where more is unsent than that, something is sent or waits
+-- if more is unsent than that, something is sent or waits
 unsent_some : (s : State) (a : Sending) (mark : ℕ) → s.sending ≡ a → mark < unsent s → (a ≡ sends) ⊎ (0 < s.writes + s.ends)
 unsent_some s a mark at more = grind arith
 

@@ -1,4 +1,4 @@
--- What holds of each state that a server's session can reach.
+-- The facts that hold of each state that a server's session can reach.
 use Rattle.std.proofs.Common.{◌≡◌, ℕ, zero, suc, ◌+◌, ◌*◌, ◌≤◌}
 use Rattle.tn_theorems.specs.progress.Server.{one, End, nothing_comes, no_memory, Net, handing, net_tells, net_leaves, net_gone, is_done, is_refused, Cause, stops}
 use Rattle.tn_theorems.specs.progress.Server.{none_comes, Desk, asking, waiting, desk_leaves, desk_gone, Back, back_waits, back_leaves, back_gone, Term, writing}
@@ -8,7 +8,7 @@ abbrev pub is_handing : Net → ℕ
 is_handing handing = 1
 is_handing _ = 0
 
--- it has told, or is about to leave
+-- 1 for an end because nothing more comes
 abbrev pub by_nothing : End → ℕ
 by_nothing nothing_comes = 1
 by_nothing no_memory = 0
@@ -27,7 +27,7 @@ has_failed (net_leaves e) = by_memory e
 has_failed (net_gone e) = by_memory e
 has_failed _ = 0
 
--- it may have said last words
+-- 1 for a thread that may have sent last words
 abbrev pub may_have_said : Net → ℕ
 may_have_said (net_tells e) = by_nothing e
 may_have_said (net_leaves e) = by_nothing e
@@ -59,7 +59,7 @@ desk_by f (desk_leaves c) = f c
 desk_by f (desk_gone c) = f c
 desk_by f _ = 0
 
--- what it asked for has come
+-- the entry for which it asked has come
 abbrev pub has_answer : Desk → ℕ
 has_answer asking = 0
 has_answer waiting = 0
@@ -73,7 +73,7 @@ abbrev pub back_left_in : Back → ℕ
 back_left_in back_gone = 1
 back_left_in _ = 0
 
--- it has a credit to step, or had one as it stopped
+-- 1 for a thread that has a credit to step, or had one as it stopped
 abbrev pub has_step_credit : Back → ℕ
 has_step_credit back_waits = 0
 has_step_credit _ = 1
@@ -100,7 +100,7 @@ has_joined joining = 1
 has_joined ended = 1
 has_joined _ = 0
 
--- 1 where more than this many wait
+-- 1 if more than this number wait
 abbrev pub many : ℕ → ℕ → ℕ
 many zero most = 0
 many (suc waits) zero = 1

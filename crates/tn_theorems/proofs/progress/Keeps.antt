@@ -29,7 +29,7 @@ by_message sizes refused_last take s false asks true zero h some none = grind ar
 by_message sizes refused_last take s false asks false zero h some none = grind arith
 by_message sizes choice kind s over asks at_end waits h some none = grind arith
 
--- where not few wait, many do
+-- if not few wait, many do
 not_few : (waits most : ℕ) → is_few waits most ≡ false → many waits most ≡ 1
 not_few (suc waits) (suc most) e = not_few waits most e
 not_few _ _ e = cc
@@ -43,7 +43,7 @@ covers false false = grind arith
 due_is : (owed p : Bool) (n : ℕ) → n + one owed + one p ≤ 1 → one (owed || p) ≡ one owed + one p
 due_is owed p n few = grind arith
 
--- a write ended: a credit is due to Net, and Back is told to stop
+-- a write ended: a credit is due to Net, and the word to stop to Back
 by_write : (sizes : Sizes) (s : State) (failed p last over owed asks few due : Bool) → one due ≡ one owed + one p
     → (few ≡ false → many s.waits sizes.before_piece ≡ 1)
     → Holds sizes (record s { term = writing p last; over = over; owed = owed; asks = asks })
@@ -71,7 +71,7 @@ keeps_own sizes (handles choice kind) s h (at, _, some, none) =
 keeps_own sizes (writes_nothing p last) s h (at, over) = after_write sizes s false p last h at
 keeps_own sizes own s h may = grind arith
 
--- and where it is let
+-- a thread goes on if it is let
 pub keeps_let : (sizes : Sizes) (outer : Outer) (s : State) → Holds sizes s → MayBeLet outer s → Holds sizes (let_on sizes outer s)
 keeps_let sizes (writes failed p last) s h at = after_write sizes s failed p last h at
 keeps_let sizes outer s h at = grind arith
@@ -79,7 +79,7 @@ keeps_let sizes outer s h at = grind arith
 at_first : (sizes : Sizes) → Holds sizes (start sizes)
 at_first sizes = grind arith
 
--- and so it holds of each state that is reached
+-- the facts hold of each state that is reached
 pub holds : (sizes : Sizes) (s : State) → Reached sizes s → Holds sizes s
 holds sizes u (at_start s e) = subst (λ (t : State). Holds sizes t) (sym e) (at_first sizes)
 holds sizes u (goes_on s t r (own, may, e)) =

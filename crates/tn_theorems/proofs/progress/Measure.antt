@@ -1,4 +1,4 @@
--- Each step that a thread makes by itself is one towards where nothing goes on by itself.
+-- Each step that a thread makes by itself is one towards a state in which no thread goes on by itself.
 use Rattle.std.proofs.Common.{arith, ℕ, ◌+◌, ◌*◌, ◌<◌, ◌≤◌, ap}
 use Rattle.tn_theorems.proofs.progress.{Invariant.{is_waiting, last_of}, Keeps.holds}
 use Rattle.tn_theorems.specs.progress.Server.{one, Net, holding, handing, net_says, net_tells, net_leaves, Desk, asking, waiting, desk_says, desk_tells, desk_leaves}
@@ -36,7 +36,7 @@ term_size (writing p last) = 4 + one last
 term_size joining = 1
 term_size ended = 0
 
--- how many steps of its own a session has before it at most
+-- the most steps of its own that a session has before it
 abbrev pub size : State → ℕ
 size s = net_size s.net + desk_size s.desk + back_size s.back + term_size s.term + s.entries + s.ends + 4 * waiting_mails s.box
 

@@ -34,7 +34,8 @@ mail_or_room box = by box.pieces box.words box.endings box.said box.takes box.st
     by zero zero zero zero zero zero zero zero (suc k) p n q r s t u v w = inl (left, omega arith, refl)
     by zero zero zero zero zero zero zero zero zero p n q r s t u v w = inr (omega arith)
 
--- What is known of a state in which Term waits for a message and none is there, with its threads at these places.
+-- The known facts of a state in which Term waits for a message and none is there, with its threads at these
+-- places.
 record Idle (sizes : Sizes) (s : State) (n : Net) (d : Desk) (b : Back) (asks : Bool) (waits : ℕ) : Type 0 where
   pub holds : Holds sizes (record s { net = n; desk = d; back = b; term = receiving; asks = asks; waits = waits })
   pub no_mail : waiting_mails s.box ≡ 0
@@ -48,7 +49,7 @@ no_credit sizes s b asks waits i c e = let h = i.holds in grind arith
 nor_left : (sizes : Sizes) (s : State) (x : Cause) (b : Back) (asks : Bool) (waits : ℕ) → Idle sizes s holding (desk_gone x) b asks waits → s.credits ≡ 0 → ⊥
 nor_left sizes s x b asks waits i c = let h = i.holds in grind arith
 
--- Net has left, and then Back was told to stop, and Desk does not wait for an entry
+-- Net has left, and then Back was asked to stop, and Desk does not wait for an entry
 gone_waiting : (sizes : Sizes) (s : State) (e : End) (b : Back) (asks : Bool) (waits : ℕ) → Idle sizes s (net_gone e) waiting b asks waits
     → (s.entries ≡ 0) × (s.ends ≡ 0) → ⊥
 gone_waiting sizes s e b asks waits i f = let h = i.holds in grind arith
@@ -61,7 +62,7 @@ all_gone : (sizes : Sizes) (s : State) (e : End) (c : Cause) (asks : Bool) (wait
 all_gone sizes s e c asks waits i = i.not_all (let h = i.holds in omega arith)
 
 module _ (sizes : Sizes) (s : State) (room : HasRoom sizes s) where
-  -- Desk's turn, with what is so where it waits in vain or has left
+  -- Desk's turn, with what is so if it waits in vain or has left
   by_desk : (d : Desk) (entries ends : ℕ) → s.desk ≡ d → s.entries ≡ entries → s.ends ≡ ends
       → (d ≡ waiting → entries ≡ 0 → ends ≡ 0 → DoesNotGetStuck sizes s) → ((c : Cause) → d ≡ desk_gone c → DoesNotGetStuck sizes s) → DoesNotGetStuck sizes s
   by_desk asking entries ends at e f w g = goes_by sizes s asks_entry (at, room)
@@ -85,7 +86,7 @@ module _ (sizes : Sizes) (s : State) (room : HasRoom sizes s) where
   by_back back_leaves stop at e l w g = goes_by sizes s back_left (at, room)
   by_back back_gone stop at e l w g = g refl
 
--- what is known with its threads at these places
+-- the known facts with its threads at these places
 idle : (sizes : Sizes) (s : State) (n : Net) (d : Desk) (b : Back) → Holds sizes s → s.term ≡ receiving → waiting_mails s.box ≡ 0 → s.lefts ≢ 3
     → s.net ≡ n → s.desk ≡ d → s.back ≡ b → Idle sizes s n d b s.asks s.waits
 idle sizes s n d b h at none not_all en ed eb = record {
@@ -126,7 +127,7 @@ module _ (sizes : Sizes) (s : State) (h : Holds sizes s) (at : s.term ≡ receiv
   by_net (net_leaves e) credits en c = goes_by sizes s (net_left e) (en, room)
   by_net (net_gone e) credits en c = gone_on_by e en
 
--- all have left, once Term has heard of all three
+-- all have left, once Term has received the Left of all three
 net_gone_of : (n : Net) → net_left_in n ≡ 1 → (e : End) × (n ≡ net_gone e)
 net_gone_of (net_gone e) f = (e, refl)
 net_gone_of _ f = cc
@@ -189,7 +190,7 @@ puts_never_wait sizes s r =
     let c = h.one_credit in
     (omega arith, omega arith)
 
--- how many messages of each thread wait at most
+-- the most messages of each thread that wait
 most_of_net : (n : Net) → may_have_said n + has_ended n + has_failed n + net_left_in n ≤ 3
 most_of_net n = grind arith
 

@@ -28,16 +28,17 @@ pub record Programs {J : Type 0} (facts : JobFacts J) : Type 0 where
   pub joined : RunsClient (window_of connecting) keys seen now connected
   pub sent : TookWhatWasWritten connected
 
--- what each read from its connection and wrote to it
+-- the bytes that each program read from its connection and wrote to it
 abbrev pub server_transcript : {J : Type 0} {facts : JobFacts J} → Programs facts → List Exchange
 server_transcript p = p.served.transcript
 
+-- the transcript of the client's session
 abbrev pub client_transcript : {J : Type 0} {facts : JobFacts J} → Programs facts → List Exchange
 client_transcript p = p.joined.transcript
 
 -- These are of THEIR connection: each read what its thread read from there. What the server wrote was taken
 -- by the connection, as its log has it. What the client wrote waited in its queue for the thread that sends;
--- the connection took the first of it, and all of it where `connect` tells so.
+-- the connection took the first of it, and all of it if `connect` reports so.
 pub record AreTheirs {J : Type 0} {facts : JobFacts J} (p : Programs facts) : Type 0 where
   pub server_read : all_read (server_transcript p) ≡ came_by (view p.conversed.ports.net).net
   pub server_wrote : all_wrote (server_transcript p) ≡ logged p.conversed.log
@@ -46,11 +47,12 @@ pub record AreTheirs {J : Type 0} {facts : JobFacts J} (p : Programs facts) : Ty
   pub client_sent : IsPrefixOf (logged p.connected.log) (all_wrote (client_transcript p))
   pub client_sent_all : IsTrue p.connected.all_sent → logged p.connected.log ≡ all_wrote (client_transcript p)
 
--- what the job took, and what one local terminal gives for the keys that were read, with the commands between
--- them
+-- the entries that the job took, and those that one local terminal gives for the keys that were read, with
+-- the commands between them
 abbrev pub taken : {J : Type 0} {facts : JobFacts J} → Programs facts → List Entry
 taken p = p.served.entries_taken
 
+-- the entries of the client's inputs at one local terminal
 abbrev pub local : {J : Type 0} {facts : JobFacts J} → Programs facts → List Entry
 local p =
     typed_entries (terminal_of p.options).canon
@@ -62,13 +64,13 @@ pub record RanToTheEnd {J : Type 0} {facts : JobFacts J} (p : Programs facts) : 
   pub client : p.connected.report.ended ≡ HangUp
   pub whole : all_read (server_transcript p) ≡ all_wrote (client_transcript p)
 
--- THE SENTENCE
+-- THE THEOREM
 pub record ReadsWhatIsTyped {J : Type 0} {facts : JobFacts J} (p : Programs facts) : Type 0 where
   pub prefix : IsPrefixOf (taken p) (local p)
   pub all : RanToTheEnd p → taken p ≡ local p
   pub theirs : AreTheirs p
 
--- with lines of one limit, where a socket carries what each wrote
+-- with lines of one limit, if a socket carries what each wrote
 abbrev pub HeadlineOfPrograms : {J : Type 0} → JobFacts J → Type 0
 HeadlineOfPrograms facts =
     (p : Programs facts) → p.connecting.line_limit ≡ p.options.line_limit

@@ -13,7 +13,7 @@ pub data Net : Type 0 where
   net_gone : Net
 
 -- Keys waits until little is to be sent, then for the user, hands the keys to the core, and looks whether it
--- was told to stop.
+-- was asked to stop.
 pub data Keys : Type 0 where
   held : Keys
   typing : Keys
@@ -33,16 +33,16 @@ pub data Core : Type 0 where
   joining : Core
   ended : Core
 
--- Sending takes a write from the queue, and sends it. Where that failed because the user has left or the
--- screen is gone, it discards what still comes.
+-- Sending takes a write from the queue, and sends it. If that failed because the user has left or the screen
+-- is gone, it discards what still comes.
 pub data Sending : Type 0 where
   taking : Sending
   sends : Sending
   discards : Sending
   sent_all : Sending
 
--- What is told to the core: keys, or a size; a piece of the network; that nothing more comes from the
--- network, or of the keys; that there was no memory; that a thread has left.
+-- A message to the core: keys, or a size; a piece of the network; that nothing more comes from the network,
+-- or of the keys; that there was no memory; that a thread has left.
 pub data Kind : Type 0 where
   keys : Kind
   piece : Kind
@@ -52,7 +52,7 @@ pub data Kind : Type 0 where
   net_left : Kind
   keys_left : Kind
 
--- how many messages of each kind wait for the core
+-- the number of messages of each kind that wait for the core
 pub record Box : Type 0 where
   pub keys : ℕ
   pub pieces : ℕ
@@ -62,13 +62,14 @@ pub record Box : Type 0 where
   pub net_left : ℕ
   pub keys_left : ℕ
 
+-- the state of a client's session
 pub record State : Type 0 where
   pub net : Net
   pub typist : Keys
   pub core : Core
   pub sending : Sending
   pub box : Box
-  -- what the queue holds: writes, and the end behind them
+  -- the content of the queue: writes, and the end after them
   pub writes : ℕ
   pub ends : ℕ
   -- the end was put
@@ -80,19 +81,20 @@ pub record State : Type 0 where
   pub over : Bool
   -- the keys have ended
   pub no_keys : Bool
-  -- Keys was told to stop
+  -- Keys was asked to stop
   pub stop : Bool
-  -- how many threads have told that they left
+  -- the number of threads that have sent that they left
   pub lefts : ℕ
 
--- How many messages the mailbox holds, how many writes the queue, and with more than how many no more keys
--- are read; and whether what comes from the network may have to be answered.
+-- The number of messages that the mailbox holds, of writes that the queue holds, and the number of unsent
+-- ones beyond which no more keys are read; and whether what comes from the network may have to be answered.
 pub record Sizes : Type 0 where
   pub mails : ℕ
   pub queue : ℕ
   pub mark : ℕ
   pub answers : Bool
 
+-- no message waits in the mailbox
 abbrev pub none_waits : Box
 none_waits = record {
   keys = 0;
@@ -104,6 +106,7 @@ none_waits = record {
   keys_left = 0;
 }
 
+-- the first state
 abbrev pub start : State
 start = record {
   net = reading;
@@ -122,10 +125,12 @@ start = record {
   lefts = 0;
 }
 
+-- the number of messages in the mailbox
 abbrev pub waiting_mails : Box → ℕ
 waiting_mails box = box.keys + box.pieces + box.endings + box.keys_endings + box.refusals + box.net_left
     + box.keys_left
 
+-- the mailbox has room for one more message
 abbrev pub HasRoom : Sizes → State → Type 0
 HasRoom sizes s = waiting_mails s.box < sizes.mails
 
@@ -133,6 +138,7 @@ HasRoom sizes s = waiting_mails s.box < sizes.mails
 abbrev pub HasPlace : Sizes → State → Type 0
 HasPlace sizes s = s.writes + s.ends < sizes.queue
 
+-- the number of messages of this kind in the mailbox
 abbrev pub count_of : Kind → Box → ℕ
 count_of keys box = box.keys
 count_of piece box = box.pieces
@@ -142,6 +148,7 @@ count_of refusal box = box.refusals
 count_of net_left box = box.net_left
 count_of keys_left box = box.keys_left
 
+-- the mailbox with one more message of this kind
 abbrev pub put : Kind → Box → Box
 put keys box = record box { keys = box.keys + 1 }
 put piece box = record box { pieces = box.pieces + 1 }
@@ -151,6 +158,7 @@ put refusal box = record box { refusals = box.refusals + 1 }
 put net_left box = record box { net_left = box.net_left + 1 }
 put keys_left box = record box { keys_left = box.keys_left + 1 }
 
+-- the mailbox with one message of this kind less
 abbrev pub taken : Kind → Box → Box
 taken keys box = record box { keys = box.keys - 1 }
 taken piece box = record box { pieces = box.pieces - 1 }
@@ -160,10 +168,12 @@ taken refusal box = record box { refusals = box.refusals - 1 }
 taken net_left box = record box { net_left = box.net_left - 1 }
 taken keys_left box = record box { keys_left = box.keys_left - 1 }
 
+-- the message to the core about why the network ended
 abbrev pub told_of_end : End → Kind
 told_of_end nothing_comes = ending
 told_of_end no_memory = refusal
 
+-- the message to the core about why the keys ended
 abbrev pub told_of_keys : End → Kind
 told_of_keys nothing_comes = keys_ending
 told_of_keys no_memory = refusal
@@ -173,6 +183,6 @@ abbrev pub busy : Sending → ℕ
 busy sends = 1
 busy _ = 0
 
--- how many writes are not sent yet
+-- the number of writes that are not sent yet
 abbrev pub unsent : State → ℕ
 unsent s = s.writes + busy s.sending

@@ -1,4 +1,4 @@
--- What the threads of a client's session may do next.
+-- The next steps that the threads of a client's session may make.
 use Rattle.std.specs.Prelude.{◌≡◌, ◌≢◌, ℕ, ◌+◌, ◌-◌, ◌*◌, ◌<◌, ◌≤◌, Bool, true, IsTrue, false, IsFalse, ◌||◌}
 use Rattle.std.specs.Prelude.{◌⊎◌}
 use Rattle.tn_theorems.specs.progress.Server.{one, End, nothing_comes, no_memory}
@@ -11,13 +11,14 @@ use Rattle.tn_theorems.specs.progress.Client.{told_of_end, told_of_keys, unsent}
 
 -- THE CORE HANDLES A MESSAGE
 
+-- the message says that a thread has left
 abbrev pub is_left : Kind → Bool
 is_left net_left = true
 is_left keys_left = true
 is_left _ = false
 
--- Of keys, and of a piece that may have to be answered, there may be something to write; and a call of it may
--- be refused.
+-- For keys, and for a piece that may have to be answered, there may be something to write; and a call for it
+-- may be refused.
 abbrev pub MayWrite : Bool → Kind → Type 0
 MayWrite answers keys = Unit {0}
 MayWrite true piece = Unit {0}
@@ -28,7 +29,7 @@ MayWrite answers refusal = ⊥
 MayWrite answers net_left = ⊥
 MayWrite answers keys_left = ⊥
 
--- what comes of a message of this kind
+-- the state after a message of this kind had its effect
 abbrev pub comes_of : Kind → State → State
 comes_of keys s = s
 comes_of piece s = s
@@ -43,6 +44,7 @@ abbrev pub then_at : Bool → Core
 then_at true = putting
 then_at false = showing
 
+-- the state after the core handled a message of this kind
 abbrev pub handled : Bool → Bool → Kind → State → State
 handled writes refused kind s =
     let t = comes_of kind (record s {
@@ -52,12 +54,13 @@ handled writes refused kind s =
     }) in
     record t { over = t.over || refused; closed = t.closed || (t.over || refused) }
 
--- Behind what is shown, Keys is told to stop where nothing has any effect any more or nothing more comes; and
--- the end is put where no more is to be sent.
+-- After what is shown, Keys is asked to stop if nothing has any effect any more or nothing more comes; and
+-- the end is put if no more is to be sent.
 abbrev pub behind : Bool → Bool → Core
 behind true false = closing
 behind ends is_put = receiving
 
+-- the state after the core showed its text, or failed to
 abbrev pub shown : Bool → State → State
 shown failed s =
     let over = s.over || failed in
@@ -90,8 +93,8 @@ pub data Own : Type 0 where
   drops_write : Own
   drops_end : Own
 
--- A thread goes on once somebody else lets it: the network brings something, or ends; the user types, or ends
--- what is typed; the screen takes what is shown, or does not; the network takes what is sent, or does not.
+-- A thread goes on once something outside lets it: the network brings something, or ends; the user types, or
+-- ends the keys; the screen takes what is shown, or does not; the network takes what is sent, or does not.
 pub data Outer : Type 0 where
   brings : Outer
   is_read_out : End → Outer
@@ -106,7 +109,7 @@ pub data Outer : Type 0 where
 abbrev pub IsLittle : Sizes → State → Type 0
 IsLittle sizes s = (unsent s ≤ sizes.mark) ⊎ (s.sending ≡ sent_all)
 
--- when it may
+-- this step of a thread's own may come
 abbrev pub MayGo : Sizes → Own → State → Type 0
 MayGo sizes hands_piece s = (s.net ≡ net_hands) × HasRoom sizes s
 MayGo sizes (tells_end e) s = (s.net ≡ net_tells e) × HasRoom sizes s
@@ -134,7 +137,7 @@ MayGo sizes takes_end s = (s.sending ≡ taking) × (s.writes ≡ 0) × (0 < s.e
 MayGo sizes drops_write s = (s.sending ≡ discards) × (0 < s.writes)
 MayGo sizes drops_end s = (s.sending ≡ discards) × (s.writes ≡ 0) × (0 < s.ends)
 
--- and where it comes
+-- the state after this step of a thread's own
 abbrev pub gone_on : Own → State → State
 gone_on hands_piece s = record s { net = reading; box = put piece s.box }
 gone_on (tells_end e) s = record s { net = net_leaves; box = put (told_of_end e) s.box }
@@ -159,6 +162,7 @@ gone_on takes_end s = record s { sending = sent_all; ends = s.ends - 1 }
 gone_on drops_write s = record s { writes = s.writes - 1 }
 gone_on drops_end s = record s { sending = sent_all; ends = s.ends - 1 }
 
+-- this event from outside may come
 abbrev pub MayBeLet : Outer → State → Type 0
 MayBeLet brings s = s.net ≡ reading
 MayBeLet (is_read_out e) s = s.net ≡ reading
@@ -169,11 +173,12 @@ MayBeLet is_sent s = s.sending ≡ sends
 MayBeLet breaks s = s.sending ≡ sends
 MayBeLet is_given_up s = s.sending ≡ sends
 
--- where nothing more comes from the network, that is to be seen at once
+-- if nothing more comes from the network, that is to be seen at once
 abbrev pub closes_link : End → Bool
 closes_link nothing_comes = true
 closes_link no_memory = false
 
+-- the state after this event from outside
 abbrev pub let_on : Outer → State → State
 let_on brings s = record s { net = net_hands }
 let_on (is_read_out e) s = record s { net = net_tells e; closed = s.closed || closes_link e }
@@ -184,13 +189,15 @@ let_on is_sent s = record s { sending = taking }
 let_on breaks s = record s { sending = sent_all }
 let_on is_given_up s = record s { sending = discards }
 
+-- a thread makes a step by itself
 abbrev pub Goes : Sizes → State → State → Type 0
 Goes sizes s t = (own : Own) × MayGo sizes own s × (t ≡ gone_on own s)
 
+-- an event from outside comes
 abbrev pub IsLet : State → State → Type 0
 IsLet s t = (outer : Outer) × MayBeLet outer s × (t ≡ let_on outer s)
 
--- where steps lead
+-- the states to which steps lead
 pub data Reached (sizes : Sizes) : State → Type 0 where
   at_start : (s : State) → s ≡ start → Reached sizes s
   goes_on : (s t : State) → Reached sizes s → Goes sizes s t → Reached sizes t
@@ -198,8 +205,8 @@ pub data Reached (sizes : Sizes) : State → Type 0 where
 
 -- WHAT HOLDS OF THEM
 
--- what a state waits for: the network that is read, the user as long as the connection stands, the screen, or
--- the network to which it is sent
+-- the event for which a state waits: the network that is read, the user as long as the connection stands, the
+-- screen, or the network to which it is sent
 pub data WaitsFor (s : State) : Type 0 where
   for_network : s.net ≡ reading → WaitsFor s
   for_user : s.typist ≡ typing → IsFalse s.closed → WaitsFor s
@@ -213,7 +220,7 @@ NeverGetsStuck =
     (sizes : Sizes) (s : State) → 0 < sizes.mails → 0 < sizes.queue → Reached sizes s → s.core ≢ ended
     → ((t : State) × Goes sizes s t) ⊎ (WaitsFor s × ((t : State) × IsLet s t))
 
--- The core never waits for the network to take what is sent, where nothing that comes has to be answered, and
+-- The core never waits for the network to take what is sent, if nothing that comes has to be answered, and
 -- the queue holds three writes more than the mailbox and what may wait while keys are read.
 abbrev pub NeverWaitsToSend : Type 0
 NeverWaitsToSend =
@@ -221,12 +228,12 @@ NeverWaitsToSend =
     → Reached sizes s
     → (s.core ≡ putting) ⊎ (s.core ≡ closing) → HasPlace sizes s ⊎ (s.sending ≡ sent_all)
 
--- so many steps, each a thread's own, lead there
+-- this number of steps, each a thread's own, leads to the last state
 pub data Alone (sizes : Sizes) : ℕ → State → State → Type 0 where
   no_step : (s t : State) → s ≡ t → Alone sizes 0 s t
   one_more : (n : ℕ) (s t u : State) → Goes sizes s t → Alone sizes n t u → Alone sizes (n + 1) s u
 
--- Where nobody outside does anything the threads come to rest, after so many steps at most.
+-- If nothing outside happens, the threads come to rest, after at most this number of steps.
 abbrev pub ComesToRest : Type 0
 ComesToRest =
     (sizes : Sizes) (n : ℕ) (s t : State) → Reached sizes s → Alone sizes n s t

@@ -1,12 +1,12 @@
--- The threads of a server's session as a system of steps: where each stands, what the channels between them
+-- The threads of a server's session as a system of steps: the place of each, what the channels between them
 -- hold, and what each may do next. A step is one access to what they share. `tools/progress/server.pml` is
--- the same for Spin; a comment above each loop of `tn_session` names its thread: Net, Desk, Back, Term.
+-- this system for Spin; a comment above each loop of `tn_session` names its thread: Net, Desk, Back, Term.
 --
--- Of a channel only numbers are known here, so that what waits in it may be taken in any order, but for one
--- thing: the foreground job's request is taken after what it said before.
+-- Of a channel only numbers are known in this model, so that what waits in it may be taken in any order, but
+-- for one thing: the foreground job's request is taken after the text that it sent before.
 use Rattle.std.specs.Prelude.{ℕ, ◌+◌, ◌-◌, ◌<◌, Bool, true, false}
 
--- how many there are of something that is there or not
+-- 1 for something that is there, and 0 if it is not
 abbrev pub one : Bool → ℕ
 one true = 1
 one false = 0
@@ -17,7 +17,7 @@ pub data End : Type 0 where
   no_memory : End
 
 -- Net reads the network. A piece is held until there is a credit for it, and then handed to Term. Before it
--- tells that nothing more comes it may say last words.
+-- sends that nothing more comes it may send last words.
 pub data Net : Type 0 where
   reading : Net
   holding : Net
@@ -33,11 +33,12 @@ pub data Stop : Type 0 where
   is_done : Stop
   is_refused : Stop
 
+-- why the foreground job's thread leaves
 pub data Cause : Type 0 where
   stops : Stop → Cause
   none_comes : Cause
 
--- Desk runs the foreground job: it asks for an entry, waits for it, and says what the job answers.
+-- Desk runs the foreground job: it asks for an entry, waits for it, and sends the job's answer.
 pub data Desk : Type 0 where
   asking : Desk
   waiting : Desk
@@ -48,7 +49,7 @@ pub data Desk : Type 0 where
   desk_gone : Cause → Desk
 
 -- Back runs the jobs in the background, a step of each in turn. For each it takes a credit, which Term gives
--- back as it takes what the step said: so only so many of these wait for Term.
+-- back as it takes the step's text: so only as many of these wait for Term as there are credits.
 pub data Back : Type 0 where
   back_waits : Back
   stepping : Back
@@ -58,17 +59,17 @@ pub data Back : Type 0 where
   back_gone : Back
 
 -- Term has the terminal: it receives a message, handles it, and writes. Of a write it is kept whether the
--- message was a piece, for which a credit is due then, and whether the foreground job is told behind it that
--- no entry comes.
+-- message was a piece, for which a credit is due then, and whether the foreground job gets the end of its
+-- entries after it.
 pub data Term : Type 0 where
   receiving : Term
   writing : Bool → Bool → Term
   joining : Term
   ended : Term
 
--- What is told to Term: a piece; last words of the network; that it ended; that the foreground job takes
--- an entry; what that job says; what a step of a job in the background says; that the foreground job is
--- done; that a call was refused; that a thread has left.
+-- A message to Term: a piece; last words of the network; that it ended; that the foreground job takes an
+-- entry; that job's text; the text of a step of a job in the background; that the foreground job is done;
+-- that a call was refused; that a thread has left.
 pub data Kind : Type 0 where
   piece : Kind
   words : Kind
@@ -80,7 +81,7 @@ pub data Kind : Type 0 where
   refusal : Kind
   left : Kind
 
--- how many messages of each kind wait for Term
+-- the number of messages of each kind that wait for Term
 pub record Box : Type 0 where
   pub pieces : ℕ
   pub words : ℕ
@@ -92,18 +93,19 @@ pub record Box : Type 0 where
   pub refusals : ℕ
   pub left : ℕ
 
+-- the state of a server's session
 pub record State : Type 0 where
   pub net : Net
   pub desk : Desk
   pub back : Back
   pub term : Term
   pub box : Box
-  -- what the channel to the foreground job holds: entries, and words that none comes any more
+  -- the content of the channel to the foreground job: entries, and ends of the entries
   pub entries : ℕ
   pub ends : ℕ
-  -- what the channel to Net holds
+  -- the content of the channel to Net
   pub credits : ℕ
-  -- what the channel to Back holds
+  -- the content of the channel to Back
   pub step_credits : ℕ
   -- a credit is owed to Net, until few enough entries wait
   pub owed : Bool
@@ -113,20 +115,21 @@ pub record State : Type 0 where
   pub at_end : Bool
   -- nothing has any effect any more
   pub over : Bool
-  -- Back was told to stop
+  -- Back was asked to stop
   pub stop : Bool
-  -- how many entries wait for the foreground job
+  -- the number of entries that wait for the foreground job
   pub waits : ℕ
-  -- how many threads have told that they left
+  -- the number of threads that have sent that they left
   pub lefts : ℕ
 
--- how many messages a mailbox holds, how many steps Back may be ahead of Term, and how many entries may wait
--- before one more piece is welcome
+-- the number of messages that a mailbox holds, the number of steps that Back may be ahead of Term, and the
+-- most entries that may wait before one more piece is welcome
 pub record Sizes : Type 0 where
   pub mails : ℕ
   pub ahead : ℕ
   pub before_piece : ℕ
 
+-- no message waits in the mailbox
 abbrev pub none_waits : Box
 none_waits =
     record {
@@ -141,7 +144,7 @@ none_waits =
       left = 0;
     }
 
--- the first state: Term has written its first words, and gives the first credit and those for steps
+-- the first state: Term has written its opening messages, and gives the first credit and those for steps
 abbrev pub start : Sizes → State
 start sizes = record {
   net = reading;
@@ -162,6 +165,7 @@ start sizes = record {
   lefts = 0;
 }
 
+-- the number of messages in the mailbox
 abbrev pub waiting_mails : Box → ℕ
 waiting_mails box =
     box.pieces + box.words + box.endings + box.takes + box.said + box.steps + box.done + box.refusals
@@ -171,7 +175,7 @@ waiting_mails box =
 abbrev pub HasRoom : Sizes → State → Type 0
 HasRoom sizes s = waiting_mails s.box < sizes.mails
 
--- how many of a kind wait
+-- the number of messages of a kind that wait
 abbrev pub count_of : Kind → Box → ℕ
 count_of piece box = box.pieces
 count_of words box = box.words
@@ -183,7 +187,7 @@ count_of done box = box.done
 count_of refusal box = box.refusals
 count_of left box = box.left
 
--- with one more
+-- the mailbox with one more message of this kind
 abbrev pub put : Kind → Box → Box
 put piece box = record box { pieces = box.pieces + 1 }
 put words box = record box { words = box.words + 1 }
@@ -207,11 +211,12 @@ taken done box = record box { done = box.done - 1 }
 taken refusal box = record box { refusals = box.refusals - 1 }
 taken left box = record box { left = box.left - 1 }
 
--- what tells Term why the network ended, and why the job did
+-- the message to Term about why the network ended, and why the job did
 abbrev pub told_of_end : End → Kind
 told_of_end nothing_comes = ending
 told_of_end no_memory = refusal
 
+-- the message to Term about why the job ended
 abbrev pub told_of_stop : Stop → Kind
 told_of_stop is_done = done
 told_of_stop is_refused = refusal

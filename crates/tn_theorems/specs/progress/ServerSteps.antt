@@ -1,4 +1,4 @@
--- What the threads of a server's session may do next.
+-- The next steps that the threads of a server's session may make.
 use Rattle.std.specs.Prelude.{◌≡◌, ◌≢◌, ℕ, zero, suc, ◌+◌, ◌-◌, ◌*◌, ◌<◌, ◌≤◌, Bool, true, IsTrue, false}
 use Rattle.std.specs.Prelude.{◌||◌, ◌⊎◌}
 use Rattle.tn_theorems.specs.progress.Server.{one, End, nothing_comes, reading, holding, handing, net_says, net_tells}
@@ -11,26 +11,29 @@ use Rattle.tn_theorems.specs.progress.Server.{waiting_mails, count_of, put, take
 
 -- TERM HANDLES A MESSAGE
 
--- What comes of it: a piece completes so many entries; or a call is refused, before anything comes of the
--- message or after all has.
+-- The effect of a message: a piece completes this number of entries; or a call is refused, before the message
+-- has any effect or after all of it.
 pub data Choice : Type 0 where
   gives : ℕ → Choice
   refused_first : Choice
   refused_last : Choice
 
+-- the message is a piece
 abbrev pub is_piece : Kind → Bool
 is_piece piece = true
 is_piece _ = false
 
+-- the message says that a thread has left
 abbrev pub is_left : Kind → Bool
 is_left left = true
 is_left _ = false
 
+-- the message is a step of a background job
 abbrev pub is_step : Kind → Bool
 is_step step = true
 is_step _ = false
 
--- the message is taken, where a step said it with the credit for one more, and a write follows
+-- the message is taken, with the credit for one more if a step sent it, and a write follows
 abbrev pub received : Kind → State → State
 received kind s = record s {
   box = taken kind s.box;
@@ -39,30 +42,31 @@ received kind s = record s {
   lefts = s.lefts + one (is_left kind);
 }
 
--- all is over: a job that asks is told so at once
+-- all is over: a job that asks gets the end of its entries at once
 abbrev pub halted : State → State
 halted s = record s { over = true; asks = false; ends = s.ends + one s.asks }
 
--- a call was refused, and all is over: a job that asks is told so behind the write
+-- a call was refused, and all is over: a job that asks gets the end of its entries after the write
 abbrev pub is_writing_piece : Term → Bool
 is_writing_piece (writing p l) = p
 is_writing_piece _ = false
 
+-- the state after a call was refused
 abbrev pub refused : State → State
 refused s = record s { over = true; asks = false; term = writing (is_writing_piece s.term) s.asks }
 
--- so many entries more are complete: a job that asks gets the first
+-- this number of entries more is complete: a job that asks gets the first
 abbrev pub completed : Bool → ℕ → State → State
 completed true (suc more) s = record s { entries = s.entries + 1; asks = false; waits = s.waits + more }
 completed asks more s = record s { waits = s.waits + more }
 
--- the foreground job asks for an entry, where so many wait, and more come or not
+-- the foreground job asks for an entry, if this number wait, and more come or not
 abbrev pub asked : ℕ → Bool → State → State
 asked (suc waits) at_end s = record s { entries = s.entries + 1; asks = false; waits = waits }
 asked zero true s = record s { ends = s.ends + 1; asks = false }
 asked zero false s = record s { asks = true }
 
--- what comes of a message while anything has an effect
+-- the state after a message had its effect, while anything has one
 abbrev pub comes_of : Kind → ℕ → State → State
 comes_of piece more s = completed s.asks more s
 comes_of ending more s = record s { at_end = true; asks = false; ends = s.ends + one s.asks }
@@ -74,30 +78,34 @@ comes_of words more s = s
 comes_of step more s = s
 comes_of left more s = s
 
+-- the state after the job asks for an entry
 abbrev pub asks_anew : Kind → State → State
 asks_anew take s = record s { asks = true }
 asks_anew _ s = s
 
+-- the state after a message had this effect
 abbrev pub chosen : Choice → Kind → State → State
 chosen (gives more) kind s = comes_of kind more s
 chosen refused_first kind s = refused (asks_anew kind s)
 chosen refused_last kind s = refused (comes_of kind 0 s)
 
--- and what comes of it once nothing has: a job that asks is told that none comes
+-- the effect of a message once nothing has any: a job that asks gets the end of its entries
 abbrev pub comes_of_late : Kind → State → State
 comes_of_late take s = record s { ends = s.ends + 1 }
 comes_of_late _ s = s
 
+-- the state after a message, by whether all is over
 abbrev pub handled_by : Bool → Choice → Kind → State → State
 handled_by true choice kind s = comes_of_late kind s
 handled_by false choice kind s = chosen choice kind s
 
+-- the state after Term handled a message
 abbrev pub handled : Choice → Kind → State → State
 handled choice kind s = handled_by s.over choice kind (received kind s)
 
--- BEHIND A WRITE
+-- AFTER A WRITE
 
--- a failed write is the end of all, and a job that asks is told so
+-- a failed write is the end of all, and a job that asks gets the end of its entries
 abbrev pub broken : Bool → Bool → State → State
 broken true false s = record s { over = true; asks = false; ends = s.ends + one s.asks }
 broken failed over s = s
@@ -108,6 +116,7 @@ is_few zero most = true
 is_few (suc waits) zero = false
 is_few (suc waits) (suc most) = is_few waits most
 
+-- the state after a credit is given, if it is owed and a piece is welcome
 abbrev pub paid : Bool → Bool → State → State
 paid true true s = record s { credits = s.credits + 1; owed = false }
 paid owed welcome s = record s { owed = owed }
@@ -144,7 +153,7 @@ pub data Own : Type 0 where
   joins : Own
   finishes : Own
 
--- A thread goes on once somebody else lets it: the network brings something or ends, with last words or
+-- A thread goes on once something outside lets it: the network brings something or ends, with last words or
 -- without, a job returns, the network takes what is written or does not.
 pub data Outer : Type 0 where
   brings : Outer
@@ -157,12 +166,12 @@ pub data Outer : Type 0 where
   has_no_job : Outer
   writes : Bool → Bool → Bool → Outer
 
--- what the foreground job said before it asks is taken before that
+-- the text that the foreground job sent before it asks is taken before that
 abbrev pub waits_behind : Kind → Box → ℕ
 waits_behind take box = box.said
 waits_behind _ box = 0
 
--- when it may
+-- this step of a thread's own may come
 abbrev pub MayGo : Sizes → Own → State → Type 0
 MayGo sizes takes_credit s = (s.net ≡ holding) × (0 < s.credits)
 MayGo sizes hands_piece s = (s.net ≡ handing) × HasRoom sizes s
@@ -188,7 +197,7 @@ MayGo sizes finishes s =
     (s.term ≡ joining) × ((e : End) × (s.net ≡ net_gone e)) × ((c : Cause) × (s.desk ≡ desk_gone c))
     × (s.back ≡ back_gone)
 
--- and where it comes
+-- the state after this step of a thread's own
 abbrev pub gone_on : Sizes → Own → State → State
 gone_on sizes takes_credit s = record s { net = handing; credits = s.credits - 1 }
 gone_on sizes hands_piece s = record s { net = reading; box = put piece s.box }
@@ -211,6 +220,7 @@ gone_on sizes (writes_nothing p last) s = written sizes false p last s
 gone_on sizes joins s = record s { term = joining }
 gone_on sizes finishes s = record s { term = ended }
 
+-- this event from outside may come
 abbrev pub MayBeLet : Outer → State → Type 0
 MayBeLet brings s = s.net ≡ reading
 MayBeLet has_words s = s.net ≡ reading
@@ -222,6 +232,7 @@ MayBeLet refuses s = s.back ≡ stepping
 MayBeLet has_no_job s = s.back ≡ stepping
 MayBeLet (writes failed p last) s = s.term ≡ writing p last
 
+-- the state after this event from outside
 abbrev pub let_on : Sizes → Outer → State → State
 let_on sizes brings s = record s { net = holding }
 let_on sizes has_words s = record s { net = net_says }
@@ -237,10 +248,11 @@ let_on sizes (writes failed p last) s = written sizes failed p last s
 abbrev pub Goes : Sizes → State → State → Type 0
 Goes sizes s t = (own : Own) × MayGo sizes own s × (t ≡ gone_on sizes own s)
 
+-- an event from outside comes
 abbrev pub IsLet : Sizes → State → State → Type 0
 IsLet sizes s t = (outer : Outer) × MayBeLet outer s × (t ≡ let_on sizes outer s)
 
--- where steps lead
+-- the states to which steps lead
 pub data Reached (sizes : Sizes) : State → Type 0 where
   at_start : (s : State) → s ≡ start sizes → Reached sizes s
   goes_on : (s t : State) → Reached sizes s → Goes sizes s t → Reached sizes t
@@ -248,7 +260,7 @@ pub data Reached (sizes : Sizes) : State → Type 0 where
 
 -- WHAT HOLDS OF THEM
 
--- what a state waits for: the network that is read, the foreground job, or a write
+-- the event for which a state waits: the network that is read, the foreground job, or a write
 pub data WaitsFor (s : State) : Type 0 where
   for_network : s.net ≡ reading → WaitsFor s
   for_job : s.desk ≡ answering → WaitsFor s
@@ -265,17 +277,17 @@ NeverGetsStuck =
 abbrev pub PutsNeverWait : Type 0
 PutsNeverWait = (sizes : Sizes) (s : State) → Reached sizes s → (s.entries + s.ends ≤ 1) × (s.credits ≤ 1)
 
--- However fast the jobs in the background are, no more than so many messages wait for Term. So a key that
--- comes is passed by no more; and where the mailbox has more places, no thread ever waits for one.
+-- However fast the jobs in the background are, at most this number of messages wait for Term. So no more than
+-- that pass a key that comes; and if the mailbox has more places, no thread ever waits for one.
 abbrev pub FewMailsWait : Type 0
 FewMailsWait = (sizes : Sizes) (s : State) → Reached sizes s → waiting_mails s.box ≤ sizes.ahead + 7
 
--- so many steps, each a thread's own, lead there
+-- this number of steps, each a thread's own, leads to the last state
 pub data Alone (sizes : Sizes) : ℕ → State → State → Type 0 where
   no_step : (s t : State) → s ≡ t → Alone sizes 0 s t
   one_more : (n : ℕ) (s t u : State) → Goes sizes s t → Alone sizes n t u → Alone sizes (n + 1) s u
 
--- Where nobody outside does anything the threads come to rest, after so many steps at most.
+-- If nothing outside happens, the threads come to rest, after at most this number of steps.
 abbrev pub ComesToRest : Type 0
 ComesToRest =
     (sizes : Sizes) (n : ℕ) (s t : State) → Reached sizes s → Alone sizes n s t → n ≤ 47 + 4 * sizes.mails

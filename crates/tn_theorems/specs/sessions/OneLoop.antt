@@ -23,7 +23,7 @@ use Rattle.tn_cores.specs.server.Reaching as term
 use Rattle.tn_cores.specs.server.Run as term_run
 use Rattle.tn_cores.specs.declared.server.messages.ServerMark as term_mark
 
--- both were started: the opening words are on their way to the client
+-- both were started: the opening messages are on their way to the client
 pub record IsStart (canon : Canon) (editing : Editing) (jobs : Jobs) (width height : ℕ)
     (j : Joined) : Type 0 where
   pub server : term.LeadsTo (term_run.start canon editing jobs) j.term
@@ -33,7 +33,7 @@ pub record IsStart (canon : Canon) (editing : Editing) (jobs : Jobs) (width heig
   pub shown : j.shown.items ≡ []
   pub puts : j.puts.items ≡ []
 
--- so many of the bytes come, or all where there are fewer
+-- this number of the bytes come, or all if there are fewer
 pub record TakesFirst (bytes : List ℕ) (count : ℕ) (first rest : List ℕ) : Type 0 where
   pub whole : bytes ≡ first ++ rest
   pub many : length first ≡ min count (length bytes)
@@ -63,13 +63,15 @@ pub record TellsOne (old : Joined) (told : Told) (new : Joined) : Type 0 where
   pub to_client : new.to_client ≡ old.to_client
   pub puts : new.puts ≡ old.puts
 
+-- a message from the user
 abbrev pub from_user : Message → Told
 from_user m = record { from = origin.Keys; message = m }
 
+-- a piece from the network
 abbrev pub from_network : List ℕ → Told
 from_network piece = record { from = origin.Net; message = message.Piece piece }
 
--- what comes is taken off what is on its way
+-- the bytes that come are taken off those that are on their way
 pub record ComesToServer (old : Joined) (count : ℕ) (new : Joined) : Type 0 where
   pub piece : List ℕ
   pub mid : Joined
@@ -81,6 +83,7 @@ pub record ComesToServer (old : Joined) (count : ℕ) (new : Joined) : Type 0 wh
   pub puts : mid.puts ≡ old.puts
   pub served : ServesOne mid (message.Piece piece) new
 
+-- The first bytes on their way to the client come there.
 pub record ComesToClient (old : Joined) (count : ℕ) (new : Joined) : Type 0 where
   pub piece : List ℕ
   pub mid : Joined
@@ -101,7 +104,7 @@ Happens old (ToClient count) new = ComesToClient old count new
 Happens old Take new = ServesOne old message.Take new
 Happens old (Said job text after) new = ServesOne old (message.Said job text after) new
 
--- WHEN ONE IS REFUSED: memory runs out only where a machine appends, shows or gives something
+-- WHEN A CALL IS REFUSED: memory runs out only if a machine appends, shows or gives something
 pub record ServesNone (old : Joined) (m : Message) : Type 0 where
   pub mark : term_mark.ServerMark
   pub bytes : List ℕ
@@ -111,6 +114,7 @@ pub record ServesNone (old : Joined) (m : Message) : Type 0 where
   pub turn : term.IsTurn mark old.term m bytes put last after
   pub grows : (0 < length bytes) ⊎ (0 < length (puts_of put ++ puts_of last))
 
+-- The message makes the client's machine append or show something.
 pub record TellsNone (old : Joined) (told : Told) : Type 0 where
   pub mark : core_mark.ClientMark
   pub bytes : List ℕ
@@ -138,18 +142,19 @@ pub record StopsIn (first : Joined) (script : List LoopEvent) : Type 0 where
   pub happened : FoldsTo Happens first front mid
   pub refused : IsRefused mid event
 
--- what the user typed: keys, and commands between them
+-- the inputs that the user typed: keys, and commands between them
 abbrev pub inputs_by : LoopEvent → List Input
 inputs_by (Typed keys) = inputs_in (message.Piece keys)
 inputs_by (Asked control) = inputs_in (message.Asked control)
 inputs_by _ = []
 
+-- the inputs of these events
 abbrev pub inputs_of : List LoopEvent → List Input
 inputs_of events = flat_map inputs_by events
 
--- THE SENTENCE, with nothing between the two: what was put for the foreground job is the first of what a
--- local terminal gives for what was typed; and where nothing is on its way to the server, and nothing failed,
--- that and what waits for the job is all of it. That the bytes are carried is a part of it, and no premise.
+-- THE THEOREM, with nothing between the two: what was put for the foreground job is the first of what a local
+-- terminal gives for what was typed; and if nothing is on its way to the server, and nothing failed, that and
+-- what waits for the job is all of it. That the bytes are carried is a part of it, and no premise.
 pub record ReadsAll (canon : Canon) (typed : List Input) (j : Joined) : Type 0 where
   pub prefix : IsPrefixOf (entries_put j.puts.items) (typed_entries canon (keys_of canon.settings typed))
   pub all : j.to_server.items ≡ [] → IsFalse j.term.progress.over → IsFalse j.core.progress.over
@@ -158,7 +163,7 @@ pub record ReadsAll (canon : Canon) (typed : List Input) (j : Joined) : Type 0 w
   pub server : List Exchange
   pub client : List Exchange
   pub carried : IsCarried server client
-  -- what one has written and the other not read is on its way
+  -- the bytes that one has written and the other not read are on their way
   pub to_server : all_wrote client ≡ all_read server ++ j.to_server.items
   pub to_client : all_wrote server ≡ all_read client ++ j.to_client.items
 

@@ -1,6 +1,6 @@
--- The headline over two running sessions, of what can be seen of them: what each read from its connection and
--- wrote to it. Read `Headline` at the end first, and what `RunningSession` and `RunningClient` say of a
--- transcript.
+-- The headline over two running sessions, in terms of their observations: what each read from its connection
+-- and wrote to it. Read `Headline` at the end first, and then the fields of `RunningSession` and
+-- `RunningClient` about a transcript.
 use Rattle.std.specs.Prelude.{◌≡◌, ℕ, IsTrue, ⊤, All, Option, Some, List, [], ◌∷◌, ◌++◌, flat_map}
 use Rattle.std.specs.Prelude.{option_to_list}
 use Rattle.tn_client.specs.declared.commands.UserCommand.TheVariants.{Brk, Ip}
@@ -24,7 +24,7 @@ pub record Served {J : Type 0} (facts : JobFacts J) (canon : Canon) : Type 0 whe
   pub result : SessionResult
   pub ran : RunningSession facts to_make (record { canon = canon; editing = editing }) reader writer result
 
--- A client's session that ran, with lines of at most so many bytes: what `client_session` promises.
+-- A client's session that ran, with lines of at most this number of bytes: the promise of `client_session`.
 pub record Connected (limit : ℕ) : Type 0 where
   pub width : ℕ
   pub height : ℕ
@@ -45,10 +45,11 @@ key_of s (command_sent Ip) = option_to_list s.chars.intr
 key_of s line_entered = lf ∷ []
 key_of s _ = []
 
+-- the keys of these inputs, each command as the key that it stands for
 abbrev pub keys_of : Settings → List Input → List ℕ
 keys_of s inputs = flat_map (key_of s) inputs
 
--- the key INTR interrupts there, where it counts
+-- the key INTR interrupts at that terminal, if it matters
 abbrev pub HasKey : Settings → Input → Type 0
 HasKey s (command_sent Brk) = IsTrue s.flags.isig
 HasKey s (command_sent Ip) = IsTrue s.flags.isig
@@ -59,24 +60,26 @@ pub data Step : Type 0 where
   served : Exchange → Step
   told : Exchange → Step
 
+-- the server's steps in this order
 abbrev pub server_steps : List Step → List Exchange
 server_steps [] = []
 server_steps (served x ∷ order) = x ∷ server_steps order
 server_steps (told x ∷ order) = server_steps order
 
+-- the client's steps in this order
 abbrev pub client_steps : List Step → List Exchange
 client_steps [] = []
 client_steps (served x ∷ order) = client_steps order
 client_steps (told x ∷ order) = x ∷ client_steps order
 
--- what each end has read begins what the other has written
+-- the bytes that each end has read begin those that the other has written
 pub record IsInTime (server client : List Exchange) : Type 0 where
   pub to_server : IsPrefixOf (all_read server) (all_wrote client)
   pub to_client : IsPrefixOf (all_read client) (all_wrote server)
 
--- THE SOCKET, of two transcripts. There is one order of the steps of both, such that after each step what
--- either has read so far begins what the other has written so far: nothing was lost, added or turned round on
--- the way, and no byte came before it was written.
+-- THE SOCKET, of two transcripts. There is one order of the steps of both, such that after each step the
+-- bytes that either has read so far begin those that the other has written so far: nothing was lost, added or
+-- reordered on the way, and no byte came before it was written.
 pub record IsCarried (server client : List Exchange) : Type 0 where
   pub order : List Step
   pub of_server : server_steps order ≡ server
@@ -91,25 +94,25 @@ pub record RanToTheEnd {J : Type 0} {facts : JobFacts J} {canon : Canon} (s : Se
   pub client : c.result.report.ended ≡ HangUp
   pub whole : all_read s.ran.transcript ≡ all_wrote c.ran.transcript
 
--- what the user of a client typed, as keys of a terminal of this canon
+-- the inputs of a client's user, as keys of a terminal of this canon
 abbrev pub keys_at : (canon : Canon) → Connected canon.limit → List ℕ
 keys_at canon c = keys_of canon.settings c.ran.inputs
 
 -- WHAT YOU TYPE IS WHAT THE JOB READS: what the foreground job took is a prefix of the entries that the keys
 -- which the client read give at one local terminal, with the commands and new lines between them, and is all
--- of them where both ran to the end.
+-- of them if both ran to the end.
 pub record ReadsWhatIsTyped {J : Type 0} {facts : JobFacts J} {canon : Canon} (s : Served facts canon)
     (c : Connected canon.limit) : Type 0 where
   pub prefix : IsPrefixOf s.ran.entries_taken (typed_entries canon (keys_at canon c))
   pub all : RanToTheEnd s c → s.ran.entries_taken ≡ typed_entries canon (keys_at canon c)
-  -- and so of all keys that the user's reader gives, where they are known, and nothing is asked for between
-  -- them
+  -- the entries that were taken are a prefix of those of all keys that the user's reader gives, if these are
+  -- known, and nothing is requested between them
   pub of_given : (given : List ℕ) → c.keys.reader.bytes ≡ Some given → c.keys.controls ≡ Some []
       → IsPrefixOf s.ran.entries_taken (typed_entries canon given)
 
--- THE SENTENCE. So it is of any two sessions, with lines of one limit and the standard special characters, of
--- which INTR interrupts if BRK or IP was sent, whose transcripts a socket carries: whatever the schedules,
--- the cuts, the modes and the faults.
+-- THE THEOREM holds of any two sessions, with lines of one limit and the standard special characters, of
+-- which INTR interrupts if BRK or IP was sent, whose transcripts a socket carries: for all schedules, cuts,
+-- modes and faults.
 abbrev pub Headline : {J : Type 0} → JobFacts J → Type 0
 Headline facts =
     (canon : Canon) (s : Served facts canon) (c : Connected canon.limit)

@@ -8,8 +8,9 @@ use crate::sessions::laws::what_you_type_is_what_the_job_reads;
 use tn_editor::laws::whole_lines_give_the_entries;
 use tn_session::Maker;
 
-/// Of what `serve_connection` and `connect` return: where a socket carries what each wrote, what the job took
-/// is a prefix of the entries of the keys that the client read, and all of them where both ran to the end.
+/// The job reads what you type over a connection, by the results of `serve_connection` and
+/// `connect`. If a socket carries what each wrote, what the job took is a prefix of the entries of
+/// the keys that the client read, and is all of them if both ran to the end.
 pub fn what_you_type_over_a_connection_is_read<M: Maker>()
     ensures { (maker : M) →
         HeadlineOfPrograms (job_facts (begins M.Job.fresh M.gives maker) M.Job.reacts M.Job.steps
@@ -28,7 +29,7 @@ pub fn what_is_edited_in_lines_is_read<M: Maker>()
     whole_lines_give_the_entries();
 }
 
-/// Of the commands of a client's stream, those that count as typed are those that the terminal takes as keys.
+/// The commands of a client's stream that count as typed are those that the terminal takes as keys.
 pub fn what_counts_as_typed_is_a_key()
     ensures { TypedAreKeys }
 {}

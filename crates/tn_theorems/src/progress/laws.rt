@@ -1,4 +1,4 @@
-//! What holds of the threads of a session, whatever each does next.
+//! Laws of the threads of a session, whatever each does next.
 
 ghost use Rattle.tn_theorems.specs.progress.ClientSteps as client;
 ghost use Rattle.tn_theorems.specs.progress.ServerSteps as server;
@@ -15,15 +15,15 @@ pub fn no_put_of_an_entry_waits()
     ensures { server.PutsNeverWait }
 {}
 
-/// However fast the jobs in the background are, at most seven messages more wait for the terminal than there
-/// are credits for their steps. So that is how many pass a key at most; and where the mailbox has a place for
-/// each, no thread waits for one.
+/// However fast the jobs in the background are, at most seven messages more wait for the terminal
+/// than there are credits for their steps. So at most that number pass a key; and if the mailbox
+/// has a place for each, no thread waits for one.
 pub fn few_mails_wait()
     ensures { server.FewMailsWait }
 {}
 
-/// Where nobody outside does anything the threads of a server's session come to rest, after at most 47 steps
-/// and four for each place of the mailbox.
+/// If nothing outside happens, the threads of a server's session come to rest, after at most 47
+/// steps and four for each place of the mailbox.
 pub fn a_server_comes_to_rest()
     ensures { server.ComesToRest }
 {}
@@ -35,14 +35,14 @@ pub fn a_client_never_gets_stuck()
     ensures { client.NeverGetsStuck }
 {}
 
-/// Keys alone never fill the queue of what a client sends, so that its core never waits for the server to
-/// read.
+/// Only keys never fill the queue of what a client sends, so that its core never waits for the
+/// server to read.
 pub fn keys_never_wait_to_be_sent()
     ensures { client.NeverWaitsToSend }
 {}
 
-/// Where nobody outside does anything the threads of a client's session come to rest, after at most 36 steps,
-/// four for each place of the mailbox and one for each of the queue.
+/// If nothing outside happens, the threads of a client's session come to rest, after at most 36
+/// steps, four for each place of the mailbox and one for each of the queue.
 pub fn a_client_comes_to_rest()
     ensures { client.ComesToRest }
 {}

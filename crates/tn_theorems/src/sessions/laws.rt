@@ -10,18 +10,19 @@ ghost use Rattle.tn_server.specs.declared.wishes.Editing.{Editing};
 
 use tn_session::Maker;
 
-/// What you type is what the job reads, of what can be seen of two sessions: where the server's special
-/// characters are the standard ones and both have lines of one limit, each command that was sent stands for a
-/// key there, and a socket carries what each wrote, what the job took is a prefix of the entries of the keys
-/// that the client read, with the commands between them, and all of them where both sessions ran to the end.
+/// What you type is what the job reads, by the observations of two sessions. The premises: the
+/// server's special characters are the standard ones, both have lines of one limit, each command
+/// that was sent stands for a key at the server, and a socket carries what each wrote. Then what
+/// the job took is a prefix of the entries of the keys that the client read, with the commands
+/// between them, and is all of them if both sessions ran to the end.
 pub fn what_you_type_is_what_the_job_reads<M: Maker>()
     ensures { (maker : M) →
         Headline (job_facts (begins M.Job.fresh M.gives maker) M.Job.reacts M.Job.steps M.Job.refuses) }
 {}
 
-/// No answer comes late: before its core takes the next mail, each session has written all that its run says
-/// by then, or all that it ever wrote, as a write failed. What a client writes it puts into the queue of its
-/// connection.
+/// No answer comes late: before its core takes the next message, each session has written all that
+/// its run sent by then, or all that it ever wrote, as a write failed. A client writes into the
+/// queue of its connection.
 pub fn no_answer_comes_late<M: Maker>()
     ensures server { (maker : M) (canon : Canon)
         (s : Served (job_facts (begins M.Job.fresh M.gives maker) M.Job.reacts M.Job.steps M.Job.refuses)
@@ -30,15 +31,15 @@ pub fn no_answer_comes_late<M: Maker>()
     ensures client { (limit : ℕ) (c : Connected limit) → AnswersOfClient c }
 {}
 
-/// Where both machines are run by one loop, with nothing between them but two lists of bytes, what you type
-/// is what the job reads, whatever happens and however the bytes are cut: that they are carried is proved,
-/// and no premise.
+/// If one loop runs both machines, with nothing between them but two lists of bytes, what you type
+/// is what the job reads, for all events and however the bytes are cut: that they are carried is
+/// proved, and no premise.
 pub fn one_loop_reads_what_is_typed()
     ensures { LoopReads }
 {}
 
-/// What that asks of two sessions can be met, and both can run to the end: a line is typed at the client, and
-/// taken by the job.
+/// The premises about two sessions can be met, and both can run to the end: a line is typed at the
+/// client, and taken by the job.
 pub fn two_sessions_carry_a_line()
     ensures { (editing : Editing) → SessionsCarryALine editing }
 {}

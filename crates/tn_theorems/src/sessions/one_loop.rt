@@ -23,14 +23,16 @@ use tn_discipline::{Entry, Limit, Settings, Text};
 use tn_jobs::{After, JobId, Table};
 use tn_server::Editing;
 
-/// What happens next.
+/// The next event of the loop.
 #[derive(Drop)]
 pub enum LoopEvent {
     /// The user types these keys.
     Typed(Text),
-    /// So many of the bytes that are on their way to the server come there, or all where there are fewer.
+    /// This number of the bytes that are on their way to the server come there, or all if there are
+    /// fewer.
     ToServer(usize),
-    /// So many of the bytes that are on their way to the client come there, or all where there are fewer.
+    /// This number of the bytes that are on their way to the client come there, or all if there are
+    /// fewer.
     ToClient(usize),
     /// The user asks for a control function.
     Asked(Control),
@@ -44,9 +46,9 @@ pub enum LoopEvent {
     },
 }
 
-/// The machine of a server's session and that of a client's, the bytes that are on their way between them,
-/// what is shown to the user, and what was put for the foreground job, where `None` is the end of its
-/// entries.
+/// The machine of a server's session and that of a client's, the bytes that are on their way
+/// between them, the text that is shown to the user, and the entries that were put for the
+/// foreground job, among which `None` is their end.
 #[derive(Drop)]
 pub struct Joined {
     pub term: Term,
@@ -57,7 +59,7 @@ pub struct Joined {
     pub puts: Vec<Option<Entry>>,
 }
 
-// The first bytes are taken off.
+// Takes the first bytes off, and returns them.
 fn take_first(bytes: &mut Vec<u8>, count: usize) -> Result<Text, AllocError>
     ensures { IfOk result (λ first. TakesFirst bytes.old.items count first bytes.new.items) }
 {
@@ -86,9 +88,13 @@ fn keep(puts: &mut Vec<Option<Entry>>, put: Put) -> Result<(), AllocError>
 }
 
 impl Joined {
-    /// Starts both: a terminal with these settings, whose lines have at most `limit` bytes at both ends,
-    /// edited at one side, with these jobs; and a client in a window of this size. The opening words are on
-    /// their way.
+    /// Starts both: a terminal with these settings, whose lines have at most `limit` bytes at both
+    /// ends, edited at one side, with these jobs; and a client in a window of this size. The
+    /// opening messages are on their way.
+    ///
+    /// # Errors
+    ///
+    /// - `Memory`: there is no memory for one of them.
     pub fn start(
         alloc: Global,
         settings: Settings,
@@ -119,7 +125,7 @@ impl Joined {
         })
     }
 
-    // The terminal handles a message.
+    // Lets the terminal handle a message.
     fn serve(&mut self, alloc: Global, message: Message) -> Result<(), AllocError>
         ensures serves { OnOk result (ServesOne self.old message self.new) }
         ensures refused { OnErr result (ServesNone self.old message) }
@@ -132,7 +138,7 @@ impl Joined {
         Ok(())
     }
 
-    // The core handles a message.
+    // Lets the core handle a message.
     fn tell(&mut self, alloc: Global, told: Told) -> Result<(), AllocError>
         ensures tells { OnOk result (TellsOne self.old told self.new) }
         ensures refused { OnErr result (TellsNone self.old told) }
@@ -167,7 +173,11 @@ impl Joined {
         Ok(())
     }
 
-    /// The next thing happens. Out of memory nothing more is said of either machine.
+    /// Lets the next event happen.
+    ///
+    /// # Errors
+    ///
+    /// - `AllocError`: there is no memory; nothing more is known of either machine.
     pub fn happen(&mut self, alloc: Global, event: LoopEvent) -> Result<(), AllocError>
         ensures happens { OnOk result (Happens self.old event self.new) }
         ensures refused { OnErr result (IsRefused self.old event) }
@@ -196,7 +206,12 @@ impl Joined {
         }
     }
 
-    /// All this happens, in order.
+    /// Lets all these events happen, in order.
+    ///
+    /// # Errors
+    ///
+    /// - `AllocError`: there is no memory at one of the events; nothing more is known of either
+    ///   machine.
     pub fn run(&mut self, alloc: Global, script: Vec<LoopEvent>) -> Result<(), AllocError>
         ensures happen { OnOk result (FoldsTo Happens self.old script.items self.new) }
         ensures refused { OnErr result (StopsIn self.old script.items) }

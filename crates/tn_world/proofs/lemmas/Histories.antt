@@ -1,4 +1,4 @@
--- The relation of two histories, with no end and no flight of bytes: it holds of the opening where the special
+-- The relation of two histories, with no end and no flight of bytes: it holds of the opening if the special
 -- characters are the standard ones, and each event keeps it.
 use Rattle.std.proofs.Common.{◌≡◌, ℕ, false, List, [], ◌∷◌, ◌++◌, refl, sym, ap, ◌∙◌, subst, append_assoc, append-nil}
 use Rattle.std.proofs.lemmas.List.{append_cancel_left, take-append-drop}
@@ -59,7 +59,8 @@ items_call h (server.got item) is = absurd is
 items_call h (server.char_set func value) is = absurd is
 items_call h _ is = refl
 
--- what was typed at a client, a new line as LF and a command as the key that it stands for at a terminal with these settings
+-- the keys that were typed at a client, a new line as LF and a command as the key that it stands for at a
+-- terminal with these settings
 abbrev pub keys_typed : Settings → client.History → List ℕ
 keys_typed s (client.begun width height limit) = []
 keys_typed s (client.next h (client.typed key)) = keys_typed s h ++ key ∷ []
@@ -73,7 +74,7 @@ AreTypeable s (client.begun width height limit) = Unit {0}
 AreTypeable s (client.next h (client.sent command)) = AreTypeable s h × IsTypeable command s
 AreTypeable s (client.next h _) = AreTypeable s h
 
--- TWO HISTORIES: what each has got are the first items that the other said; the others are on their way.
+-- TWO HISTORIES: what each has got are the first items that the other sent; the others are on their way.
 pub record TiedHistories (canon : Canon) (h : server.History) (k : client.History) : Type 0 where
   pub there : List Item
   pub said : client_says.items_said k ≡ server.items h ++ there
@@ -85,7 +86,7 @@ pub record TiedHistories (canon : Canon) (h : server.History) (k : client.Histor
 next_of : (xs there all : List Item) (x : Item) → all ≡ xs ++ there → IsPrefixOf (xs ++ x ∷ []) all → (later : List Item) × (there ≡ x ∷ later)
 next_of xs there all x e p = (p.0, append_cancel_left xs there (x ∷ p.0) (sym e ∙ sym p.1 ∙ append_assoc xs (x ∷ []) p.0))
 
--- THE SERVER: it stands where the longer history leads
+-- THE SERVER: the longer history leads to it
 server_next : (canon : Canon) (h : server.History) (k : client.History) (e : server.Event) (there back : List Item)
     → IsTied canon (keys_typed canon.settings k) (taken_at (server.next h e)) there (back ++ server_said (server_at h) e) (server_after (server_at h) e) (end_at k)
     → IsTied canon (keys_typed canon.settings k) (taken_at (server.next h e)) there (back ++ server_says.replies h e) (server_at (server.next h e)) (end_at k)
@@ -138,7 +139,7 @@ called canon h k e is t =
       tied = server_next canon h k e t.there t.back (tied_called canon h k e t.there t.back is t.tied);
     }
 
--- THE CLIENT: what it says joins what is on its way
+-- THE CLIENT: what it sends joins what is on its way
 says_more : (canon : Canon) (h : server.History) (k : client.History) (e : client.Event) (back : List Item) (t : TiedHistories canon h k)
     → server_says.items_said h ≡ client.items (client.next k e) ++ back
     → IsTied canon (keys_typed canon.settings (client.next k e)) (taken_at h) (t.there ++ says (end_at k) e) back (server_at h) (end_after (end_at k) e)
@@ -176,7 +177,7 @@ sends_as canon h k sending key t is tied =
     (subst (λ (o : Option ℕ). IsTied canon (keys_typed canon.settings k ++ option_to_list o) (taken_at h) (t.there ++ Cmd (command_sent sending) ∷ []) t.back
     (server_at h) (end_at k)) (sym is) tied)
 
--- one that interrupts, as the key would
+-- a command that interrupts, as the key would
 interrupts : (canon : Canon) (h : server.History) (k : client.History) (sending : UserCommand) (key : ℕ) → key_for sending canon.settings ≡ Some key
     → interrupt_key canon.settings ≡ Some key → SaysItems canon (Cmd command.Ip ∷ []) (Cmd (command_sent sending) ∷ [])
     → TiedHistories canon h k → TiedHistories canon h (client.next k (client.sent sending))
@@ -184,7 +185,7 @@ interrupts canon h k sending key is there writes t =
     sends_as canon h k sending (Some key) t is
     (interrupt-tied t.tied key (Cmd (command_sent sending) ∷ []) (interrupts_there canon.settings canon.settings.chars.intr key there) writes)
 
--- and one that is no input
+-- a command that is no input
 passes : (canon : Canon) (h : server.History) (k : client.History) (sending : UserCommand) → key_for sending canon.settings ≡ None
     → SaysItems canon [] (Cmd (command_sent sending) ∷ []) → TiedHistories canon h k → TiedHistories canon h (client.next k (client.sent sending))
 passes canon h k sending is writes t =
@@ -222,7 +223,7 @@ begun canon width height standard = record {
       (server_there (server.begun canon)) (stands_there (client.begun width height canon.limit));
 }
 
--- with a wish, and with what it echoes shown
+-- the histories begin with a request, and with what it echoes shown
 pub begins : (canon : Canon) (editing : Editing) (width height n : ℕ) → canon.settings.chars ≡ standard_characters
     → TiedHistories canon (server.next (server.next (server.begun canon) (server.wished editing)) (server.pulled n)) (client.begun width height canon.limit)
 begins canon editing width height n standard =
@@ -231,7 +232,7 @@ begins canon editing width height n standard =
     called canon (server.next h (server.wished editing)) k (server.pulled n) tt
     (called canon h k (server.wished editing) tt (begun canon width height standard))
 
--- WHAT IT SAYS OF ENTRIES: those that were taken, and those that wait
+-- WHAT IT STATES OF ENTRIES: those that were taken, and those that wait
 pub prefix : (canon : Canon) (h : server.History) (k : client.History) → TiedHistories canon h k
     → IsPrefixOf (entries h) (typed_entries canon (keys_typed canon.settings k))
 prefix canon h k t =

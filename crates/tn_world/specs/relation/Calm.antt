@@ -1,5 +1,5 @@
--- What is in flight after a mark, and from the opening on: nothing that turns LINEMODE off or changes a
--- special character, and nothing that turns it on but where the special characters are the standard ones.
+-- The items in flight after a mark, and from the opening on: none turns LINEMODE off or changes a special
+-- character, and none turns it on unless the special characters are the standard ones.
 use Rattle.std.specs.Prelude.{◌≡◌, ◌⊎◌, ℕ, ◌==◌, Bool, true, IsTrue, false, IsFalse, Option, Some}
 use Rattle.tn_codes.specs.{declared.codes.Verb.{Verb, TheVariants.{Will, DoIt}}, PayloadOf.payload_of}
 use Rattle.tn_codes.specs.declared.payloads.Payload.{Payload}
@@ -15,12 +15,15 @@ pub record Mode : Type 0 where
   pub edit : Bool
   pub trapsig : Bool
 
+-- a mask as a mode
 abbrev pub bits : ℕ → Mode
 bits mask = record { edit = edits mask; trapsig = traps mask }
 
+-- the mode of Remote
 abbrev pub remote_mode : Mode
 remote_mode = record { edit = false; trapsig = false }
 
+-- the mode of Local under these settings
 abbrev pub local_mode : Settings → Mode
 local_mode s = record { edit = true; trapsig = s.flags.isig }
 
@@ -34,10 +37,11 @@ SaysCalmly (Some (payload.Mode mask)) = IsTrue (is_acknowledged mask)
 SaysCalmly (Some (payload.Slc triples)) = ⊥
 SaysCalmly _ = Unit {0}
 
--- the one word that turns LINEMODE on at an end, where the client's first table is the server's
+-- the one message that turns LINEMODE on at an end, if the client's first table is the server's
 abbrev pub TurnsOn : Settings → Verb → Verb → ℕ → Type 0
 TurnsOn s turning verb option = (verb ≡ turning) × (option ≡ 34) × (s.chars ≡ standard_characters)
 
+-- the item, on its way to the server, is calm
 abbrev pub IsCalmToServer : Settings → Item → Type 0
 IsCalmToServer s (Neg verb option) = IsFalse (option == option_code.linemode) ⊎ TurnsOn s Will verb option
 IsCalmToServer s (Sub option params) = SaysCalmly (payload_of option params)
@@ -51,6 +55,7 @@ AsksCalmly s (Some (payload.Slc triples)) =
     (s.chars ≡ standard_characters) × (triples ≡ announcement standard_characters)
 AsksCalmly s _ = Unit {0}
 
+-- the item, on its way to the client, is calm
 abbrev pub IsCalmToClient : Settings → Item → Type 0
 IsCalmToClient s (Neg verb option) = IsFalse (option == option_code.linemode) ⊎ TurnsOn s DoIt verb option
 IsCalmToClient s (Sub option params) = AsksCalmly s (payload_of option params)

@@ -12,14 +12,15 @@ use Rattle.tn_server.specs.Terms as server_terms
 use Rattle.tn_server.specs.declared.wishes.Editing.TheVariants.{Local}
 use Rattle.tn_client.specs.Calls as client
 
--- A server as far as lines go: whether LINEMODE is on, whether it takes bytes as edited, its half line, and
--- the entries that wait.
+-- A server as far as lines go: whether LINEMODE is on, whether it takes bytes as edited, its half-typed line,
+-- and the entries that wait.
 pub record Server : Type 0 where
   pub linemode : Bool
   pub edit : Bool
   pub half : List ℕ
   pub waiting : List Entry
 
+-- the part of a server end that concerns lines
 abbrev pub server_core : server.End → Server
 server_core end =
     record {
@@ -47,7 +48,7 @@ IsOffOrOn WantNoEmpty = ⊥
 IsOffOrOn WantNoOpposite = ⊥
 IsOffOrOn WantYesOpposite = ⊥
 
--- a wish that these flags allow
+-- a request that these flags allow
 abbrev pub IsAllowed : Flags → ℕ → Type 0
 IsAllowed f wish = (wish ≡ 0) ⊎ (server_terms.mask_for f Local ≡ Some wish)
 
@@ -55,8 +56,9 @@ IsAllowed f wish = (wish ≡ 0) ⊎ (server_terms.mask_for f Local ≡ Some wish
 abbrev pub IsFlagged : Canon → Settings → Type 0
 IsFlagged canon s = s.flags ≡ record (canon.settings.flags) { echo = s.flags.echo }
 
--- LINEMODE is agreed to and does not end, and the wish in force is allowed; the special characters, of the end
--- and of its terminal, and every flag but ECHO are as they were; nothing of the half line was handed on
+-- LINEMODE is agreed to and does not end, and the request in force is allowed; the special characters, of the
+-- end and of its terminal, and every flag but ECHO are as they were; nothing of the half-typed line was
+-- handed on
 pub record ServerStays (canon : Canon) (end : server.End) : Type 0 where
   pub agreed : IsTrue (agrees_to end.terms.options Them option_code.linemode)
   pub linemode : NeverEnds (state_of end.terms.options Them option_code.linemode)
@@ -67,6 +69,7 @@ pub record ServerStays (canon : Canon) (end : server.End) : Type 0 where
   pub limit : end.terminal.line.limit ≡ canon.limit
   pub ahead : end.terminal.line.ahead ≡ 0
 
+-- LINEMODE is agreed to and does not end, and the special characters are as they were
 pub record ClientStays (canon : Canon) (end : client.End) : Type 0 where
   pub agreed : IsTrue (agrees_to end.options Us option_code.linemode)
   pub linemode : IsOffOrOn (state_of end.options Us option_code.linemode)

@@ -23,11 +23,12 @@ abbrev pub AreOrdinary : Characters → List ℕ → Type 0
 AreOrdinary chars [] = Unit {0}
 AreOrdinary chars (b ∷ bs) = (literal_role chars b ≡ role.Ordinary b) × AreOrdinary chars bs
 
--- Between the typed keys and the taken entries, the server `v` once it has read what is in flight to it, and
--- the client: `v` has LINEMODE on exactly where the client has it on; the keys' entries are those taken and
--- those that wait at `v`, and their half line is that of `v` followed by what the client holds. Where the
--- client edits, it knows how long the half line of `v` is; where it does not, it holds nothing, and the count
--- that ISIG names is that length, if Local is a mode that the server may ask for.
+-- The relation between the typed keys and the taken entries, the server `v` once it has read what is in
+-- flight to it, and the client. `v` has LINEMODE on exactly if the client has it on. The keys' entries are
+-- those taken and those that wait at `v`, and their half-typed line is that of `v` followed by the bytes that
+-- the client holds. If the client edits, it has the length of the half-typed line of `v`; if it does not, it
+-- holds nothing, and the count that ISIG names is that length, if Local is a mode that the server may ask
+-- for.
 pub record Agrees (canon : Canon) (typed : List ℕ) (taken : List Entry) (v : Server)
     (c : client.End) : Type 0 where
   pub half : List ℕ
@@ -64,8 +65,8 @@ pub record IsRelated (canon : Canon) (w : World) : Type 0 where
   pub tied : IsTied canon w.typed w.taken items messages w.server w.client
   pub past : HasPast w
 
--- What is left of it where the client has failed, and says nothing more: the entries taken, followed by those
--- that wait at the server once it has read what is in flight to it, begin those of the typed keys.
+-- The rest of the relation if the client has failed, and sends nothing more: the entries taken, followed by
+-- those that wait at the server once it has read what is in flight to it, begin those of the typed keys.
 pub record IsBehind (canon : Canon) (w : World) : Type 0 where
   pub items : List Item
   pub flight : InFlight w.server.decoder w.to_server items

@@ -1,4 +1,4 @@
-//! The declarations of `tn.h`, which says what each call does and what its caller keeps to.
+//! The declarations of `tn.h`, which describes each call and the rules for its caller.
 #![no_std]
 #![allow(non_camel_case_types)]
 
@@ -6,7 +6,7 @@ use core::ffi::{c_char, c_void};
 
 macro_rules! handles {
     ($($name:ident),*) => {$(
-        /// It begins with a null pointer, is never copied, and is touched by the calls alone.
+        /// A handle, which begins with a null pointer, is never copied, and is touched only by the calls.
         #[repr(C)]
         pub struct $name {
             pub tn_private: *mut c_void,

@@ -1,7 +1,6 @@
 //! Lines, decoders and both ends of a Telnet connection with LINEMODE, over `libtn`, with nothing unsafe left to the caller.
 //!
-//! Each call of `tn.h`, which says what it does, is a method or a function under its name there; those that move or copy bytes return all
-//! of them.
+//! Each call of `tn.h`, which describes it, is a method or a function of its name; those that move or copy bytes return all of them.
 
 use std::collections::VecDeque;
 use std::ffi::CStr;
@@ -25,15 +24,15 @@ impl std::error::Error for Refused {}
 
 pub type Result<T> = std::result::Result<T, Refused>;
 
-// SAFETY, of each call below: what it is for is started, lent to this call alone and never copied; each pointer leads to as
-// many initialized objects as are said to be there, or to none, and is not kept.
+// SAFETY, of each call below: its handle is started, lent only to this call and never copied; each pointer leads to as
+// many initialized objects as the call names, or to none, and is not kept.
 
-/// A few words on a code.
+/// Returns a short English text for a code.
 pub fn code_text(code: u32) -> &'static str {
     unsafe { CStr::from_ptr(raw::tn_code_text(code)) }.to_str().unwrap_or("")
 }
 
-/// 10,000 times the first number of the library's version, 100 times its second, and its third.
+/// Returns the library's version: 10,000 times its first number, plus 100 times its second, plus its third.
 pub fn version() -> u32 {
     unsafe { raw::tn_version() }
 }
@@ -42,21 +41,21 @@ fn done(code: u32) -> Result<()> {
     if code == raw::TN_OK { Ok(()) } else { Err(Refused(code)) }
 }
 
-/// What a call gives through a pointer to a number.
+/// Returns the number that a call gives through a pointer.
 fn value<T: Default>(call: impl FnOnce(&mut T) -> u32) -> Result<T> {
     let mut given = T::default();
     done(call(&mut given))?;
     Ok(given)
 }
 
-/// What a call gives through two.
+/// Returns the two numbers that a call gives through pointers.
 fn pair(call: impl FnOnce(&mut u16, &mut u16) -> u32) -> Result<(u16, u16)> {
     let (mut first, mut second) = (0, 0);
     done(call(&mut first, &mut second))?;
     Ok((first, second))
 }
 
-/// What a call moves or copies to a buffer of this size.
+/// Returns the bytes that a call moves or copies to a buffer of this size.
 fn bytes(size: usize, call: impl FnOnce(*mut u8, usize, &mut usize) -> u32) -> Result<Vec<u8>> {
     let (mut bytes, mut count) = (vec![0; size], 0);
     done(call(bytes.as_mut_ptr(), size, &mut count))?;
@@ -64,7 +63,7 @@ fn bytes(size: usize, call: impl FnOnce(*mut u8, usize, &mut usize) -> u32) -> R
     Ok(bytes)
 }
 
-/// What a terminal gives.
+/// An entry: the result of one read of a terminal.
 #[derive(Clone, Debug, PartialEq, Eq)]
 pub enum Entry {
     Text(Vec<u8>),
@@ -74,7 +73,7 @@ pub enum Entry {
     Tstp,
 }
 
-/// The entry of this kind, if there is one.
+/// Returns the entry of this kind, if there is one.
 fn entry(kind: u32, text: impl FnOnce() -> Result<Vec<u8>>) -> Result<Option<Entry>> {
     Ok(match kind {
         raw::TN_TEXT => Some(Entry::Text(text()?)),
@@ -86,13 +85,13 @@ fn entry(kind: u32, text: impl FnOnce() -> Result<Vec<u8>>) -> Result<Option<Ent
     })
 }
 
-/// What a key does to a line.
+/// The effect of a key on a line.
 #[derive(Clone, Debug, PartialEq, Eq)]
 pub enum Effect {
-    /// It was ignored, or there was nothing to erase.
+    /// The key was ignored, or there was nothing to erase.
     Nothing,
     Gives(Entry),
-    /// It joined the half line.
+    /// The key joined the half-typed line.
     Kept,
     Erased,
     Killed,
@@ -100,7 +99,7 @@ pub enum Effect {
     Dropped,
 }
 
-/// Where one side of an option stands (RFC 1143, section 7).
+/// The state of one side of an option (RFC 1143, section 7).
 #[derive(Clone, Copy, Debug, PartialEq, Eq)]
 pub enum OptionState {
     No,
@@ -122,7 +121,7 @@ fn option_state(number: u32) -> OptionState {
     }
 }
 
-/// A special character as the library counts it.
+/// Returns the number of a special character in the library.
 fn number_of(value: Option<u8>) -> u16 {
     value.map_or(raw::TN_NO_CHAR, u16::from)
 }
@@ -190,7 +189,7 @@ held!(
     Decoder {} of tn_decoder, tn_decoder_free
 );
 held!(
-    /// A server end, with the terminal behind it.
+    /// A server end, with its terminal.
     Server { limit: u16, taken: VecDeque<Entry> } of tn_server, tn_server_free
 );
 held!(
@@ -217,7 +216,7 @@ impl Line {
         })
     }
 
-    /// What a terminal shows of the last key.
+    /// Returns the bytes that a terminal shows of the last key.
     pub fn echo(&self) -> Result<Vec<u8>> {
         bytes(6, |buf, size, count| unsafe { raw::tn_line_echo(&self.held, buf, size, count) })
     }
@@ -285,7 +284,8 @@ impl Server {
         Ok(Server { held, limit, taken: VecDeque::new() })
     }
 
-    /// Takes bytes that came from the client, cut anywhere and as many as there are: entries that are more than may wait are kept here.
+    /// Takes bytes that came from the client, cut anywhere and as many as there are: entries beyond those that may wait are kept in this
+    /// object.
     pub fn feed(&mut self, mut piece: &[u8]) -> Result<()> {
         loop {
             let taken = self.feed_some(piece)?;
@@ -301,7 +301,7 @@ impl Server {
         }
     }
 
-    /// Takes the first of these bytes, and says how many: none while more than 511 entries wait.
+    /// Takes the first of these bytes, and returns their number: none while more than 511 entries wait.
     pub fn feed_some(&mut self, piece: &[u8]) -> Result<usize> {
         value(|taken| unsafe { raw::tn_server_feed_some(&mut self.held, piece.as_ptr(), piece.len(), taken) })
     }
@@ -315,12 +315,12 @@ impl Server {
         value(|count| unsafe { raw::tn_server_pending(&self.held, count) })
     }
 
-    /// All that waits to be sent.
+    /// Returns all bytes that wait to be sent.
     pub fn read(&mut self) -> Result<Vec<u8>> {
         bytes(self.pending()?, |buf, size, count| unsafe { raw::tn_server_read(&mut self.held, buf, size, count) })
     }
 
-    /// What waits to be sent, where it stands.
+    /// Returns the bytes that wait to be sent, without a copy.
     pub fn peek(&self) -> Result<&[u8]> {
         let (mut at, mut count) = (std::ptr::null(), 0);
         done(unsafe { raw::tn_server_peek(&self.held, &mut at, &mut count) })?;
@@ -328,7 +328,7 @@ impl Server {
         Ok(if count == 0 { &[] } else { unsafe { std::slice::from_raw_parts(at, count) } })
     }
 
-    /// The first bytes that waited were sent.
+    /// Removes the first bytes that waited, which were sent.
     pub fn sent(&mut self, count: usize) -> Result<()> {
         done(unsafe { raw::tn_server_sent(&mut self.held, count) })
     }
@@ -346,7 +346,7 @@ impl Server {
         }
     }
 
-    /// An entry that waits, by its place from 0 on, which stays.
+    /// Returns an entry that waits, by its place from 0 on; it stays.
     pub fn waiting(&self, index: usize) -> Result<Option<Entry>> {
         if let Some(entry) = self.taken.get(index) {
             return Ok(Some(entry.clone()));
@@ -360,7 +360,7 @@ impl Server {
         })
     }
 
-    /// The first signal among the entries that wait.
+    /// Returns the first signal among the entries that wait.
     pub fn signal_waiting(&self) -> Result<Option<Entry>> {
         if let Some(signal) = self.taken.iter().find(|it| matches!(it, Entry::Int | Entry::Quit | Entry::Tstp)) {
             return Ok(Some(signal.clone()));
@@ -374,7 +374,7 @@ impl Server {
         done(unsafe { raw::tn_server_forget(&mut self.held) })
     }
 
-    /// Writes all of it to the screen, and spells that; echo comes by this too.
+    /// Writes all of it to the screen, and spells the screen, the echo too.
     pub fn write(&mut self, mut bytes: &[u8]) -> Result<()> {
         loop {
             let count = self.say(bytes)?;
@@ -385,22 +385,22 @@ impl Server {
         }
     }
 
-    /// Writes the first of these bytes to the screen, spells all that waits there, and says how many were written.
+    /// Writes the first of these bytes to the screen, spells all that waits there, and returns how many were written.
     pub fn say(&mut self, bytes: &[u8]) -> Result<usize> {
         value(|count| unsafe { raw::tn_server_say(&mut self.held, bytes.as_ptr(), bytes.len(), count) })
     }
 
-    /// Writes the first of these bytes to the screen, and spells none; says how many found room.
+    /// Writes the first of these bytes to the screen, and spells none; returns how many found room.
     pub fn write_some(&mut self, bytes: &[u8]) -> Result<usize> {
         value(|count| unsafe { raw::tn_server_write(&mut self.held, bytes.as_ptr(), bytes.len(), count) })
     }
 
-    /// Spells the first symbols of the screen, and says how many.
+    /// Spells the first symbols of the screen, and returns how many.
     pub fn pull(&mut self, most: usize) -> Result<usize> {
         value(|count| unsafe { raw::tn_server_pull(&mut self.held, most, count) })
     }
 
-    /// Wishes for lines that are edited at the client, or at the server; whether a MODE waits to be sent for it.
+    /// Requests that the client, or the server, edit lines, and returns whether a MODE waits to be sent for it.
     pub fn wish(&mut self, at_client: bool) -> Result<bool> {
         value(|sent| unsafe { raw::tn_server_wish(&mut self.held, at_client, sent) })
     }
@@ -421,12 +421,12 @@ impl Server {
         done(unsafe { raw::tn_server_clear_mask(&mut self.held) })
     }
 
-    /// The sum of the `TN_CHANGED_` of what is otherwise than at the last such call, or at the start.
+    /// Returns the sum of the `TN_CHANGED_` of all that differs from the last such call, or from the start.
     pub fn changes(&mut self) -> Result<u32> {
         value(|bits| unsafe { raw::tn_server_changes(&mut self.held, bits) })
     }
 
-    /// The window's width and height in characters; 0 is unspecified.
+    /// Returns the window's width and height in characters; 0 is unspecified.
     pub fn size(&self) -> Result<(u16, u16)> {
         pair(|width, height| unsafe { raw::tn_server_size(&self.held, width, height) })
     }
@@ -482,7 +482,7 @@ impl Client {
         value(|count| unsafe { raw::tn_client_pending(&self.held, count) })
     }
 
-    /// All that waits to be sent.
+    /// Returns all bytes that wait to be sent.
     pub fn read(&mut self) -> Result<Vec<u8>> {
         bytes(self.pending()?, |buf, size, count| unsafe { raw::tn_client_read(&mut self.held, buf, size, count) })
     }

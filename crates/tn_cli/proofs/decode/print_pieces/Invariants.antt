@@ -3,7 +3,7 @@ use Rattle.tn_cli.specs.{Decode.Decoded, Streams.max_writes}
 use Rattle.tn_cores.specs.streams.Telling.{AccountsFor, HasMade}
 use Rattle.tn_cli.proofs.decode.print_pieces.Given as goal
 
--- what was read so far is printed
+-- the bytes that were read so far are printed
 abbrev pub invariant-loop-read : goal.invariant-loop-read
 invariant-loop-read g l =
     let remaining = g.R.Source.remaining in

@@ -5,7 +5,7 @@ use Rattle.tn_world.specs.Worlds.{World}
 use Rattle.tn_cli.specs.Printed.{printed_entry}
 use Rattle.tn_cli.proofs.playing.take.Goals as goal
 
--- what was taken has become longer, so the first entry that waited was taken
+-- the list of taken entries has become longer, so the first entry that waited was taken
 one_more : (old new waits : List Entry) (entry : Entry) → new ≡ old ++ take 1 waits → length old < length new → entry ≡ get_or new (length old) entry
     → new ≡ old ++ entry ∷ []
 one_more old new [] entry is longer here =

@@ -2,7 +2,7 @@ use Rattle.std.proofs.Common.{◌≡◌, ◌+◌, ◌*◌, ◌++◌, take, vec_l
 use Rattle.hex.specs.Hex.{encode_lower}
 use Rattle.tn_cli.proofs.printed.with_digits.Given as goal
 
--- the digits of the bytes so far stand behind
+-- the digits of the bytes so far stand at the end
 abbrev pub invariant-loop-byte : goal.invariant-loop-byte
 invariant-loop-byte l =
     record {

@@ -2,7 +2,7 @@ use Rattle.std.proofs.Common.{◌∷◌, refl, Result, Ok, Err, OnOk, ap, sym}
 use Rattle.tn_codes.specs.Payloads.{Says, option_of, parameters_of}
 use Rattle.tn_codes.proofs.writing.write_payload.Goals as goal
 
--- what holds anyway holds where a call is Ok
+-- a fact that needs no call holds if the call is Ok
 on_ok : {T E : Type 0} (r : Result T E) (P : Type 0) → P → OnOk r P
 on_ok (Ok x) P p = p
 on_ok (Err e) P p = tt

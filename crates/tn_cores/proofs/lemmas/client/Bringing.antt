@@ -1,4 +1,4 @@
--- What the messages brought is taken in order.
+-- The core takes all that the messages brought in order.
 use Rattle.std.proofs.Common.{◌≡◌, ℕ, Bool, true, false, Option, Some, None, List, [], ◌∷◌, ◌++◌, map, flat_map, refl, sym, ap, ◌∙◌, subst, append-nil, append_assoc}
 use Rattle.std.proofs.lemmas.Grind.{flat_map-append}
 use Rattle.tn_client.proofs.lemmas.Histories.{items-gets}
@@ -31,7 +31,7 @@ record Takes (c : Run) (from : Origin) (m : Message) (new : Run) : Type 0 where
   feeds_on : new.stream ≡ c.stream ++ brought_from Net from m
   reads_on : IsRead c.stream (items c.history) → IsRead new.stream (items new.history)
 
--- it brought nothing
+-- one message that brought nothing
 plain : (c : Run) (from : Origin) (m : Message) (new : Run) → inputs_from from m ≡ [] → brought_from Net from m ≡ [] → new.history ≡ c.history
     → new.stream ≡ c.stream → Takes c from m new
 plain c from m new no_keys no_net same stream = record {
@@ -122,7 +122,7 @@ handled c told new on h =
     let P : Bool → Type 0 = λ b. ActsUnless b c told new in
     acted c told.from told.message new (subst P on h)
 
--- as far as its client end is concerned
+-- a run takes a message as another does that has the same history and stream
 takes_as : (c : Run) (from : Origin) (m : Message) (whole new : Run) → new.history ≡ whole.history → new.stream ≡ whole.stream → Takes c from m whole
     → Takes c from m new
 takes_as c from m whole new same stream t = record {
@@ -152,7 +152,7 @@ turn_stays c new _ off t = absurd (true_false (sym off ∙ t.0))
 abbrev Reads : Run → Type 0
 Reads c = IsRead c.stream (items c.history)
 
--- what messages bring from one side is taken in order
+-- the bytes that messages bring from one side are taken in order
 side_takes : {A : Type 0} (taken : Run → List A) (brings : Origin → Message → List A)
     → ((c new : Run) (from : Origin) (m : Message) → Takes c from m new → taken new ≡ taken c ++ brings from m) → (ms : List (Told × ClientMark)) (c new : Run)
     → Runs c ms new → Reads c → TakesFront new.progress.over (taken c

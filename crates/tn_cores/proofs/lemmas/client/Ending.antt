@@ -1,4 +1,4 @@
--- A run ends by a fault only where its cause was there.
+-- A run ends by a fault only if its cause was there.
 use Rattle.std.proofs.Common.{◌≡◌, inl, inr, ℕ, Bool, true, false, List, refl, ap}
 use Rattle.tn_cores.specs.{client.{Ending.{EndsAt, IsEndedAt}, Marks.{Turns, Runs}, Run.{Run, Acts, ActsUnless, start}}, declared.client.messages.Told.Told}
 use Rattle.tn_cores.specs.{declared.{client.messages.{ClientMark.ClientMark, Origin.{Origin, TheVariants.{Keys, Net}}}, faults.Ended.Ended}, Counting.first_end}

@@ -156,7 +156,7 @@ gives_acts c new _ a g = gives_as (flush c) new a (gives_flush c g)
 pub gives_start : (canon : Canon) (editing : Editing) → Gives [] (opening canon editing)
 gives_start canon editing = record { all = refl; taken = omega arith }
 
--- what was put is a prefix of the history's entries
+-- the entries that were put are a prefix of the history's
 
 front_of : (ps : List (Option Entry)) (h : History) → Gives ps h → GivesPrefix ps h
 front_of ps h g = (waiting h, g.all)
@@ -298,7 +298,7 @@ pub puts_are_given : (b : Bool) (canon : Canon) (editing : Editing) (jobs : Jobs
 puts_are_given b canon editing jobs marked new r = (run_keeps Turns InOrder turned_in_order marked (run_after_opening b (start canon editing jobs)) new r
     (started_in_order b canon editing jobs)).gives
 
--- what was taken of what was put
+-- the entries that were taken, of those that were put
 pub taken_are_front : (taken_count rest puts : List (Option Entry)) (h : History) → taken_count ++ rest ≡ puts → GivesPrefix puts h → GivesPrefix taken_count h
 taken_are_front taken_count rest puts h e (others, f) = (
   entries_put rest ++ others,

@@ -1,4 +1,4 @@
--- What was heard of the pieces, and the entries that it gives.
+-- The bytes of the pieces that were read, and the entries that they give.
 use Rattle.std.proofs.Common.{◌≡◌, ℕ, Bool, true, false, ◌&&◌, Option, Some, None, List, [], ◌∷◌, ◌++◌, map, refl, sym, ap, ◌∙◌, subst, append-nil}
 use Rattle.std.proofs.Common.{append_assoc}
 use Rattle.tn_cores.proofs.{lemmas.{Folding.run_takes, server.Giving.acts_of}, of_terminal.Alike.same_entries}
@@ -57,9 +57,9 @@ heard_parts first h s parts a = record {
       (lines_parts h (gets first (items h)) parts a.lines);
 }
 
--- WHERE A MESSAGE LEADS
+-- THE RUN TO WHICH A MESSAGE LEADS
 
--- the end is where it was
+-- the end is as it was
 pub record KeepsEnd (c d : Run) : Type 0 where
   pub history : d.history ≡ c.history
   pub stream : d.stream ≡ c.stream
@@ -85,7 +85,7 @@ halt_keeps : (b : Bool) (c : Run) → KeepsEnd c (halt_if b c)
 halt_keeps true c = record { history = refl; stream = refl }
 halt_keeps false c = record { history = refl; stream = refl }
 
--- the message was heard, and what its piece brings was read
+-- the message was taken, and the bytes of its piece were read
 record Hearing (first : History) (m : Message) (c new : Run) : Type 0 where
   stream : new.stream ≡ c.stream ++ bytes_in m
   heard_on : Heard first new.stream new.history
@@ -93,7 +93,7 @@ record Hearing (first : History) (m : Message) (c new : Run) : Type 0 where
 hearing_as : (first : History) (m : Message) (c d new : Run) → new ≡ d → Hearing first m c d → Hearing first m c new
 hearing_as first m c d new e a = let P : Run → Type 0 = λ u. Hearing first m c u in subst P (sym e) a
 
--- it brings nothing
+-- a message that brings no bytes
 hearing_none : (first : History) (m : Message) (c new : Run) → bytes_in m ≡ [] → new.stream ≡ c.stream → Heard first c.stream new.history
     → Hearing first m c new
 hearing_none first m c new e s a =
@@ -157,7 +157,7 @@ put_or_not_keeps : (put : Bool) (m : Message) (c whole : Run) → KeepsEnd whole
 put_or_not_keeps true m c whole = record { history = refl; stream = refl }
 put_or_not_keeps false m c whole = record { history = refl; stream = refl }
 
--- while messages have their effect
+-- a message is read while messages have their effect
 turned_on : (first : History) (m : Message) (k : ServerMark) (c new : Run) → c.progress.over ≡ false → Turns c (m, k) new → Heard first c.stream c.history
     → Hearing first m c new
 turned_on first m mark.Whole c new on t h = hearing_acts first m c new (acts_of c.progress.over c new m on t) h
@@ -173,7 +173,7 @@ turned_on first m (mark.Refused f put) c new on t h =
       heard_on = heard_as first t.1.history d.history t.1.stream d.stream same.stream same.history w.heard_on;
     })
 
--- and from then on
+-- a run that is over keeps its stream and its history
 record Stays (c new : Run) : Type 0 where
   over : new.progress.over ≡ true
   stream : new.stream ≡ c.stream
@@ -202,7 +202,7 @@ turned_stays first c new m off t h =
     let s = turned_off m.0 m.1 c new off t in
     (s.over, s.stream, heard_as first c.history new.history c.stream new.stream s.stream s.history h)
 
--- before the first message
+-- a run before its first message
 begun_history : (b : Bool) (canon : Canon) (editing : Editing) (jobs : Jobs) → (run_after_opening b (start canon editing jobs)).history ≡ opening canon editing
 begun_history true canon editing jobs = refl
 begun_history false canon editing jobs = refl
@@ -247,7 +247,7 @@ entries_grow canon editing stream rest had xs r s =
     let grown = entries_more (gets o had) on.0 in
     (grown.0, ap (λ (ys : List Item). entries (gets o ys)) on.1 ∙ ap entries (gets-append o had on.0) ∙ grown.1)
 
--- and are all of them, where there are no more bytes
+-- the entries of the first bytes are all of them, if there are no more bytes
 pub entries_same : (canon : Canon) (editing : Editing) (stream : List ℕ) (had xs : List Item) → IsRead stream had → IsRead stream xs
     → entries_by canon editing xs ≡ entries_by canon editing had
 entries_same canon editing stream had xs r s = ap (entries_by canon editing) (sym (one_reading stream r.0 s.0 had xs r.1 s.1).0)

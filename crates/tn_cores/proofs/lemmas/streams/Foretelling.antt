@@ -7,7 +7,7 @@ pub come_none : (f : Option Failures) → HasCome 0 0 f f
 come_none None = refl
 come_none (Some f) = (refl, refl)
 
--- one that gave something
+-- one call more, which gave something
 pub come_more : (n calls gave : ℕ) (old mid new : Option Failures) → HasCome calls gave old mid → ForetellsCall (Ok n) mid new
     → HasCome (calls + 1) (gave + 1) old new
 come_more n calls gave None None new had call = call
@@ -19,7 +19,7 @@ come_more n calls gave (Some old) (Some mid) (Some new) had call =
     let interrupted : new.interrupted ≡ mid.interrupted = ap (λ (f : Failures). f.interrupted) call in
     (omega (arith, had.0, failing), omega (arith, had.1, interrupted))
 
--- one that was interrupted
+-- one call more, which was interrupted
 pub come_again : (e : Error) (calls gave : ℕ) (old mid new : Option Failures) → error_kind e ≡ Interrupted → HasCome calls gave old mid
     → ForetellsCall (Err e) mid new → HasCome (calls + 1) gave old new
 come_again e calls gave None None new kind had call = call
@@ -30,7 +30,7 @@ come_again e calls gave (Some old) (Some mid) (Some new) kind had call =
     let c = call.0 kind in
     (omega (arith, had.0, c.0), omega (arith, had.1, c.1))
 
--- one that failed
+-- one call more, which failed
 pub come_failed : (e : Error) (most calls gave : ℕ) (old mid new : Option Failures) → error_kind e ≢ Interrupted → HasCome calls gave old mid
     → ForetellsCall (Err e) mid new → WillFail most gave old
 come_failed e most calls gave None mid new kind had call = tt
@@ -40,7 +40,7 @@ come_failed e most calls gave (Some old) (Some mid) (Some new) kind had call =
     let c = call.1 kind in
     inl (omega (arith, had.0, c.0))
 
--- as many as may be made
+-- as many calls as may be made
 pub come_passed : (most gave : ℕ) (old new : Option Failures) → HasCome most gave old new → WillFail most gave old
 come_passed most gave None new had = tt
 come_passed most gave (Some old) None had = absurd had

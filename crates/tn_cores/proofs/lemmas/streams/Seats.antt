@@ -48,7 +48,7 @@ module _ {T V Role : Type 0} (share : V → Role → Option (List T)) (Woven : L
       one zero u e r l is = (refl, empty r l (ap (λ (y : V). share y r) (some-injective v u e) ∙ is))
       one (suc j) u e r l is = absurd (some-ne-none u (sym e))
 
-  -- what a pass learns
+  -- the facts that a pass gets
   pub learns : (items : List T) (views : List V) (pass : ℕ) (v : V) → Kept share Woven items views → get_elem? views pass ≡ some v → (held : Role → List T)
       × Woven items held × ((r : Role) (l : List T) → share v r ≡ Some l → l ≡ held r)
   learns items views pass v kept at = (kept.1, kept.2, λ r l is. (kept.3 pass v at r l is).1)

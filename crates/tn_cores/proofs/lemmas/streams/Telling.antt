@@ -1,4 +1,4 @@
--- Calls one after another, and what they tell.
+-- Calls one after another, and what is known of them.
 use Rattle.std.proofs.Common.{◌≡◌, ◌≢◌, ℕ, ◌+◌, ◌<◌, Bool, true, false, ◌&&◌, List, length, Option, Some, None, Ok, Err, inl, inr, ⊎_elim, ◌⊎◌, refl, ap}
 use Rattle.std.proofs.Common.{◌∙◌, arith}
 use Rattle.std.specs.{IoError.error_kind, declared.io.{Error.Error, ErrorKind.TheVariants.Interrupted}}
@@ -63,7 +63,7 @@ pub accounts_none : (most : ℕ) (told : Option Calls) → AccountsFor most true
 accounts_none most None = refl
 accounts_none most (Some calls) = (omega arith, omega arith, λ e. absurd (true_false e))
 
--- so many calls were made, and none failed
+-- this number of calls was made, and none failed
 pub accounts_made : (most count : ℕ) (old new : Option Calls) → HasMade count old new → AccountsFor most true old new
 accounts_made most count None new had = had
 accounts_made most count (Some old) None had = tt
@@ -81,7 +81,7 @@ accounts_failed counts most count well (Some old) (Some mid) (Some new) fails ha
     let more = fails mid.failed new.failed told.1 in
     (omega (arith, had.0, told.0), omega (arith, had.1, more), λ e. inl (omega (arith, had.1, more)))
 
--- or as many as may be made
+-- as many calls as may be made
 pub accounts_passed : (most : ℕ) (well : Bool) (old new : Option Calls) → HasMade most old new → AccountsFor most well old new
 accounts_passed most well None new had = had
 accounts_passed most well (Some old) None had = tt

@@ -53,7 +53,7 @@ pub ok_writes : {E : Type 0} (old new : Option (List ℕ)) (r : Result ℕ E) (n
     → Appends old new (take n buf)
 ok_writes {E} old new r n buf e h = let P : Result ℕ E → Type 0 = λ u. WriteAppends old new u buf in subst P e h
 
--- where nothing more was taken
+-- if nothing more was taken
 pub stays_at : (a b c : Option (List ℕ)) (n k : ℕ) (bytes rest : List ℕ) → k ≡ 0 → Appends a b (take n bytes) → Appends b c (take k rest)
     → Appends a c (take n bytes)
 stays_at a b c n k bytes rest e one two =
@@ -64,7 +64,7 @@ stays_at a b c n k bytes rest e one two =
 pub open_more : (a b c : Option Sending) → StaysOpen a b → c ≡ written_on b → StaysOpen a c
 open_more a b c more is e = is ∙ ap written_on (more e)
 
--- so many of the bytes were written
+-- this number of the bytes was written
 pub writes_so_many : (w : Bool) (x y : Option (List ℕ)) (n : ℕ) (bytes : List ℕ) → nat_eq n (length bytes) ≡ w → Appends x y (take n bytes) → Writes w x y bytes
 writes_so_many true x y n bytes e h = let all : length bytes ≤ n = grind arith in rw (take_all n bytes all) at h
 writes_so_many false x y n bytes e h = (take n bytes, drop n bytes, sym (take-append-drop n bytes), h)

@@ -3,7 +3,7 @@ use Rattle.std.specs.{List.count_by, VecDeque.Iter.deque_iter_rest}
 use Rattle.tn_net.specs.Typing.{is_key}
 use Rattle.tn_net.proofs.kept.count_keys.Given as goal
 
--- those so far are counted, and no more than there are
+-- the keys so far are counted, and no more than there are
 abbrev pub invariant-loop-input : goal.invariant-loop-input
 invariant-loop-input l =
     (goal.iterator-loop-input).can_next l.input-iterator ×

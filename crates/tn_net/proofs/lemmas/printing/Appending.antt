@@ -1,8 +1,8 @@
--- What is appended in steps.
+-- Text that is appended in steps.
 use Rattle.std.proofs.Common.{◌≡◌, ℕ, ◌+◌, ◌<◌, List, ◌++◌, length, take, get_or, flat_map, sym, ap, ◌∙◌, append_assoc}
 use Rattle.std.proofs.lemmas.List.{take_more, flat_map_more}
 
--- what is appended to a list that was appended to before
+-- bytes that are appended to a list that was appended to before
 pub behind : (old first rest between new : List ℕ) → between ≡ old ++ first → new ≡ between ++ rest → new ≡ old ++ (first ++ rest)
 behind old first rest between new e then =
     then ∙ ap (λ (xs : List ℕ). xs ++ rest) e ∙ append_assoc old first rest

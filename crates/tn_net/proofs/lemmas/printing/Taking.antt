@@ -1,4 +1,4 @@
--- What a printer takes, some and then more.
+-- The items that a printer takes, some and then more.
 use Rattle.std.proofs.Common.{◌≡◌, ◌≢◌, ℕ, ◌+◌, ◌<◌, ◌≤◌, List, [], ◌∷◌, ◌++◌, map, length, take, drop, refl, sym, ap, ◌∙◌, subst, arith, append-nil}
 use Rattle.std.proofs.{Common.{append_assoc, length-append, Result, Ok, Err, OnOk, IsOk}, Math.Seq.take-add}
 use Rattle.std.proofs.lemmas.List.{map-append, take-append-drop, length-take-le}
@@ -73,7 +73,7 @@ takes_full old new bytes prefix full text none =
     printed_full p [] len = absurd (omega (arith, len))
     printed_full p (x ∷ xs) len = decoded_data p x xs (omega (arith, len))
 
--- an item that is no data is printed behind the data that were held
+-- an item that is no data is printed after the data that were held
 pub takes_single : (old new : Printing) (item : Item) → IsSingle item → new.prefix ≡ old.prefix
     → new.text ≡ old.text ++ (decoded (prefix_text old.prefix) (map Byte old.held) ++ whole_line (prefix_text old.prefix) (item_text item)) → new.held ≡ []
     → Takes old (item ∷ []) new
@@ -86,7 +86,7 @@ takes_single old new item is prefix text none = record {
   short = λ few. omega (arith, ap length none);
 }
 
--- so many bytes more of a run
+-- a run of which this number of bytes more was taken
 pub takes_front : (old middle new : Printing) (bytes : List ℕ) (n m : ℕ) → Takes old (map Byte (take n bytes)) middle
     → Takes middle (map Byte (take m (drop n bytes))) new → Takes old (map Byte (take (n + m) bytes)) new
 takes_front old middle new bytes n m a b =
@@ -104,7 +104,7 @@ taken_whole old new items text held t =
     ∙ sym (decoded_both p t.front (map Byte new.held) t.ends)
     ∙ ap (decoded p) (sym whole)
 
--- at a run: the bytes that were taken, and those that fill a line
+-- the printer stands in a run: these bytes were taken, and those that are left fill a line
 pub some_of_run : (old here : Printing) (bytes : List ℕ) (n : ℕ) → Takes old (map Byte (take n bytes)) here
     → max_data ≤ length here.held + length (drop n bytes) → TakesSome old (map Byte bytes) here
 some_of_run old here bytes n taken fills = record {
@@ -131,7 +131,7 @@ some_of_run old here bytes n taken fills = record {
           ends = first.1;
         }
 
--- at an item that is no data, which fills a line
+-- the printer stands at an item that is no data, which fills a line
 pub none_of_single : (old : Printing) (item : Item) → IsSingle item → TakesSome old (item ∷ []) old
 none_of_single old item is = record {
   done = [];
@@ -151,7 +151,7 @@ none_of_single old item is = record {
     not_empty [] e = absurd (cc)
     not_empty (b ∷ bs) e = absurd (cc)
 
--- what calls one after another took
+-- the items that calls one after another took
 pub taken_by_all : (old new : Printing) (calls : List (List Item)) → TakesEach Takes old calls new → Takes old (all_of calls) new
 taken_by_all old new calls taken = taken_all Takes TakesSome Takes takes_nothing takes_both old new calls taken
 

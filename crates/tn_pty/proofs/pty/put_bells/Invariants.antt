@@ -3,7 +3,7 @@ use Rattle.tn_discipline.specs.declared.echo.Symbol.TheVariants.{Byte}
 use Rattle.tn_pty.specs.Terminal.{queue_with_each}
 use Rattle.tn_pty.proofs.pty.put_bells.Given as goal
 
--- those of the bells so far that fit stand behind the queue
+-- the queue is followed by those of the bells so far that fit
 abbrev pub invariant-loop-byte : goal.invariant-loop-byte
 invariant-loop-byte l =
     l.queue ≡ queue_with_each l.initial.queue (map (λ b. Byte 7) (take l._byte-index l.bytes))

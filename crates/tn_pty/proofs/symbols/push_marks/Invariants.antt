@@ -3,7 +3,7 @@ use Rattle.circular_buffer.specs.Buffer.{buffer}
 use Rattle.tn_pty.specs.Runs.{feeds}
 use Rattle.tn_pty.proofs.symbols.push_marks.Given as goal
 
--- the marks of the bytes so far stand behind the others
+-- the marks of the bytes so far follow the others
 abbrev pub invariant-loop-at : goal.invariant-loop-at
 invariant-loop-at l =
     record {

@@ -1,7 +1,8 @@
 use Rattle.tn_serve.specs.Services.{WasTurnedAway}
 use Rattle.tn_serve.proofs.serving.serve_on.Given as goal
 
--- its sessions have the options that were asked for and jobs that its service makes, and whoever gets none is told so
+-- its sessions have the options that were asked for and jobs that its service makes, and a connection without
+-- a session is sent so
 abbrev pub ghosts-serve_as : goal.ghosts-serve_as
 ghosts-serve_as g a =
     record {

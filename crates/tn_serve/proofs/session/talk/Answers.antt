@@ -12,7 +12,7 @@ standard_is s flags chars =
     subst (λ (f : Flags). s ≡ record { flags = f; chars = standard_characters }) flags
     (subst (λ (cs : Chars). s ≡ record { flags = s.flags; chars = cs }) chars refl)
 
--- with standard settings, and a log that held nothing
+-- a session runs with standard settings, and a log that held nothing
 module _ {J : Type 0} (facts : JobFacts J) (to_make : Option ℕ) (options : SessionOptions) (result : SessionResult) where
   abbrev Ran : Settings → List ℕ → List ℕ → Type 0
   Ran settings before after =

@@ -3,7 +3,7 @@ use Rattle.tn_nvt.specs.Spelling.{spells}
 use Rattle.tn_server.specs.Replies.{data_of}
 use Rattle.tn_server.proofs.screen.spell_each.Given as goal
 
--- so many symbols have gone from the pair into the vector
+-- this number of symbols has gone from the pair into the vector
 abbrev pub invariant-loop-symbol : goal.invariant-loop-symbol
 invariant-loop-symbol l =
     record {

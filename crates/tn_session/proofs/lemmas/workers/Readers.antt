@@ -11,7 +11,7 @@ use Rattle.tn_cores.specs.{streams.{Known.{KnownReader, KnownTyping}, Beside.{Te
 use Rattle.tn_cores.specs.declared.{streams.window.WindowSize.WindowSize, messages.Message.Message}
 use Rattle.tn_cores.specs.declared.messages.Message.TheVariants.{Piece, HangUp, ReadFailed, Take, Said, Refused, Left, Resized, Asked}
 
--- what one call of `say` tells
+-- the message that one call of `say` sends
 abbrev pub Says : Sender → Message → View → View → Type 0
 Says who m v w = (l : List Mail) → v ≡ sender who l → w ≡ sender who (l ++ mail who m ∷ [])
 
@@ -21,13 +21,13 @@ said who ms m v w old says = says (map (mail who) ms) old ∙ ap (sender who) (s
 pub said_all : (who : Sender) (ms more : List Message) (v w : View) → v ≡ sends who ms → SaysAll who more v w → w ≡ sends who (ms ++ more)
 said_all who ms more v w old says = says (map (mail who) ms) old ∙ ap (sender who) (sym (map-append (mail who) ms more))
 
--- these, and then one more
+-- these messages, and then one more
 pub says_more : (who : Sender) (ms : List Message) (m : Message) (v w u : View) → SaysAll who ms v w → Says who m w u → SaysAll who (ms ++ m ∷ []) v u
 says_more who ms m v w u one two l e =
     two (l ++ map (mail who) ms) (one l e) ∙ ap (sender who) (append_assoc l (map (mail who) ms) (mail who m ∷ []))
     ∙ ap (λ (ns : List Mail). sender who (l ++ ns)) (sym (map-append (mail who) ms (m ∷ [])))
 
--- what is said of a reader, and then how the reading ended
+-- the reader's last words, and then how the reading ended
 pub says_end : (who : Sender) (job : Option JobId) (words : List (List ℕ)) (last end : Message) (said : List Message) (v w u t : View)
     → (end ≡ last) ⊎ (end ≡ Refused) → SaysLast job words end said → SaysAll who said v w → Says who end w u → Says who Left u t
     → SaysEnd who job words last v t
@@ -41,12 +41,12 @@ says_end who job words last end said v w u t is lasts one two three =
       says = λ l e. all l e ∙ ap (λ (ms : List Message). sender who (l ++ map (mail who) ms)) (append_assoc said (end ∷ []) (Left ∷ []));
     }
 
--- where memory ran out, or no job says them, nothing is said
+-- if memory ran out, or no job sends them, nothing is sent
 pub none_last : (job : Option JobId) (words : List (List ℕ)) → SaysLast job words Refused []
 none_last None words = refl
 none_last (Some job) words = refl
 
--- WHAT IS SAID LAST OF A READER
+-- THE LAST WORDS OF A READER
 
 -- nothing, or one text
 abbrev pub IsSaid : List Message → Type 0
@@ -68,7 +68,7 @@ is_said (Some job) words Left said e = inl e
 is_said (Some job) words (Resized size) said e = inl e
 is_said (Some job) words (Asked control) said e = inl e
 
--- what holds of both
+-- a fact of both
 pub if_said : (P : List Message → Type 0) (said : List Message) → IsSaid said → P [] → ((job : JobId) (text : List ℕ) → P (Said job text Stay ∷ []))
     → P said
 if_said P said is none text =
@@ -108,7 +108,7 @@ says_both who xs ys v w u one two l e =
     ∙ ap (λ (ms : List Mail). sender who (l ++ ms)) (sym (map-append (mail who) (told_messages xs) (told_messages ys)))
     ∙ ap (λ (ms : List Message). sender who (l ++ map (mail who) ms)) (sym (map-append message_of xs ys))
 
--- what stands among the tellings of both
+-- the reports among those of both
 pieces-append : (xs ys : List Telling) → pieces_in (xs ++ ys) ≡ pieces_in xs ++ pieces_in ys
 pieces-append [] ys = refl
 pieces-append (piece_told p ∷ xs) ys = ap (λ (ps : List (List ℕ)). p ∷ ps) (pieces-append xs ys)
@@ -136,7 +136,7 @@ sizes-push told p = sizes-append told (piece_told p ∷ []) ∙ append-nil (size
 pub controls-push : (told : List Telling) (p : List ℕ) → controls_in (told ++ piece_told p ∷ []) ≡ controls_in told
 controls-push told p = controls-append told (piece_told p ∷ []) ∙ append-nil (controls_in told)
 
--- what is told between two reads
+-- the messages between two reads
 abbrev pub beside : Option WindowSize → Option Control → List Telling
 beside size control = one_size size ++ one_control control
 
@@ -219,7 +219,7 @@ reader_ends who job may_stop typing left told last said v w consumed ending caus
   controls,
 )
 
--- it was stopped after a piece
+-- the reading was stopped after a piece
 pub reader_stops : (who : Sender) (job : Option JobId) (may_stop : Bool) (typing : KnownTyping) (left : Option (List ℕ)) (told : List Telling) (p : List ℕ)
     (v w u : View)
     → Consumes typing.reader.bytes left (concat (pieces_in told ++ p ∷ [])) → may_stop ≡ true → v ≡ sends who (told_messages told)
@@ -242,7 +242,7 @@ reader_stops who job may_stop typing left told p v w u consumed may old small fi
       first_as typing.controls (controls_in told) (controls_in all) (controls-push told p) controls,
     )
 
--- a thread that is never stopped says how its reading ended
+-- a thread that is never stopped sends how its reading ended
 pub closes_ending : (job : Option JobId) (reader : KnownReader) (pieces : List (List ℕ)) (left : Option (List ℕ)) (close : List Message)
     → Closes job false reader pieces left close → (last : Message) × (IsEnding last left × IsReadCause reader.failures (length pieces) last)
     × (said : List Message) × SaysLast job reader.words last said × (close ≡ said ++ last ∷ Left ∷ [])
@@ -251,7 +251,7 @@ closes_ending job reader pieces left close closes = ⊎_elim (λ x. x) (λ x. ab
     false_true : false ≡ true → ⊥
     false_true e = cc
 
--- the same, of what a promise says of who reads and of its flag
+-- `TypingSends`, of a promise that names the sender and its flag
 pub sends_as : (who other : Sender) (says job : Option JobId) (may_stop : Bool) (typing : KnownTyping) (v : View) → who ≡ other → says ≡ job
     → TypingSends who says may_stop typing v → TypingSends other job may_stop typing v
 sends_as who other says job may_stop typing v e f sent =

@@ -103,7 +103,7 @@ module _ {J : Type 0} (began : ℕ → J → Type 0) (steps : J → Reaction →
   fresh_steps [] f id i = absurd i
   fresh_steps (r ∷ rs) f id i = ⊎_elim (λ e. (r.job, r.job, subst (λ (n : ℕ). began n r.job) (sym e) f.0, refl)) (λ later. fresh_steps rs f.1 id later) i
 
-  -- of those in the queue that made no step nothing changes
+  -- nothing changes for the jobs in the queue that made no step
   stay_on : (said : List Said) (s : Said) (queue : List (Runner J)) → (IsIn s.0.0 (ids_of queue) → ⊥) → EachStays tostop said queue
       → EachStays tostop (said ++ s ∷ []) queue
   stay_on said s [] none e = tt
@@ -217,7 +217,7 @@ said_step ss s v e = e ∙ ap (λ (ms : List Message). sender Back (map (mail Ba
 abbrev pub IsClose : List Message → Type 0
 IsClose close = (close ≡ Left ∷ []) ⊎ (close ≡ Refused ∷ Left ∷ [])
 
--- for whichever cause it left
+-- the messages at the end are those of a close, for whichever cause the thread left
 pub is_close : {J : Type 0} (began : ℕ → J → Type 0) (acts : JobActs J) (stopped : Bool) (said : List Said) (close : List Message) (left : List ℕ)
     → LeavesFor {J = J} began acts stopped said close left → IsClose close
 is_close began acts stopped said close [] f = inl f
@@ -236,7 +236,7 @@ module _ {J : Type 0} (began : ℕ → J → Type 0) (acts : JobActs J) (tostop 
   closes_idle none e = with_close (Left ∷ []) (subst (λ (l : List (Runner J)). LeavesFor {J = J} began acts stopped said (Left ∷ []) (ids_of l))
       (sym none) refl) e
 
-  -- it was told to stop
+  -- the thread was asked to stop
   pub closes_stopped : stopped ≡ true → v ≡ sender Back (map (mail Back) (map step_said said ++ Left ∷ []))
       → AreSteps {J = J} began acts (record { ids = ids; tostop = tostop }) stopped v
   closes_stopped told e = with_close (Left ∷ []) (by (ids_of queue)) e
@@ -272,7 +272,7 @@ kept_on on xs new r e n = rw e n
 pub let_go : {J : Type 0} (on : Bool) (xs : List (Runner J)) (r : Runner J) → on ≡ false → xs ≡ standing on xs r
 let_go on xs r e = rw e refl
 
--- where none was first, the queue is empty
+-- if none was first, the queue is empty
 pub none_first : {A : Type 0} (old new : List A) → old ≡ new → new ≡ drop 1 old → old ≡ []
 none_first [] new e f = refl
 none_first (x ∷ xs) new e f =

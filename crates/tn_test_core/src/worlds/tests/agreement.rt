@@ -13,7 +13,7 @@ fn exchange(world: &mut World) -> Result<(), WorldFault> {
     Ok(())
 }
 
-// They agree not yet once the client has the opening words, and then once nothing is in flight.
+// They do not agree yet once the client has the opening messages, and do once nothing is in flight.
 fn comes_to_agree(rt: &impl Abort, world: &mut World) -> Result<(), WorldFault> {
     play(world, Event::ToClient(15))?;
     assert!(rt; !world.options_agree());
@@ -22,7 +22,7 @@ fn comes_to_agree(rt: &impl Abort, world: &mut World) -> Result<(), WorldFault> 
     Ok(())
 }
 
-// LINEMODE is on at the client alone, until its word has come to the server.
+// LINEMODE is on only at the client, until its message has come to the server.
 #[test]
 fn options_agree_once_nothing_is_in_flight(rt: HostRuntime) {
     if let Ok(mut world) = open(rt.alloc(), Limit::standard()) {

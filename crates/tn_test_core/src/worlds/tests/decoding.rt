@@ -84,7 +84,7 @@ fn a_stream_is_decoded_however_it_comes(rt: HostRuntime) {
     }
 }
 
-/// Gives so many zeros more.
+/// A reader that gives this number of zeros more.
 #[derive(Drop)]
 struct Zeros(usize);
 

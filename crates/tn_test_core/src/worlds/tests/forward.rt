@@ -1,9 +1,9 @@
-//! Forward masks: a half line in two parts at two ends.
+//! Forward masks: a half-typed line in two parts at two ends.
 
 use super::worlds::print_all;
 
 const SCRIPTS: &[(&str, &str)] = &[
-    // A half line lies at both ends: the client edits, and a comma is in its mask.
+    // A half-typed line lies at both ends: the client edits, and a comma is in its mask.
     (
         "settle\nwish local\nsettle\nmark\nmask 000000000008\nsettle\n\
          key 612c7f7f620d\nflight\nsettle\ntake\n",

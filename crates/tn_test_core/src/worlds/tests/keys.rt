@@ -6,7 +6,7 @@ use std::alloc::Global;
 use std::process::Abort;
 use tn_cli::{CliFault, run_local, run_replay};
 
-// The bytes of a word, all of them also where one allocation is refused.
+// Returns the bytes of a word, all of them even if one allocation is refused.
 fn bytes_of(alloc: Global, word: &str) -> Vec<u8> {
     let one = page::bytes_of(alloc, word);
     let other = page::bytes_of(alloc, word);

@@ -1,4 +1,4 @@
-//! Modes that change in the middle of a line, and random worlds beside one local line.
+//! Modes that change in the middle of a line, and random worlds compared with one local line.
 
 use super::playing::{agrees, open, play, rests, settle, types};
 use super::worlds::print_all;
@@ -56,7 +56,7 @@ fn command(random: &mut Random) -> UserCommand {
     }
 }
 
-// Something that may happen: wishes anywhere, forward masks, deliveries cut anywhere.
+// Returns an event that may happen: requests anywhere, forward masks, deliveries cut anywhere.
 fn random_event(random: &mut Random) -> Event {
     match random.roll(19) {
         0 => Event::Wish(Editing::Local),
@@ -87,7 +87,8 @@ fn play_or_not(world: &mut World, event: Event) -> Result<(), WorldFault> {
     }
 }
 
-// What happens seldom: a line that may be longer than there is room for, ends that stop late, and rest.
+// Does an event that happens seldom: a line that may be longer than there is room for, ends that
+// stop late, and rest.
 fn rarely(world: &mut World, roll: usize, late: bool) -> Result<(), WorldFault> {
     match roll {
         0 => types(world, &[b'a'; 290]),
@@ -157,12 +158,12 @@ fn random_worlds_agree_with_one_local_line(rt: HostRuntime) -> Result<(), WorldF
 }
 
 const OPENINGS: &[(&str, &str)] = &[
-    // A line is begun, and a wish uttered, before a word of the opening has arrived.
+    // A line is begun, and a request made, before a message of the opening has arrived.
     (
         "key 6162\nwish local\nsettle\nkey 7f630d\nflight\nsettle\ntake\n",
         "to-server fff7630d0a\nto-client -\ntext 61630a\n",
     ),
-    // The client has LINEMODE on, and the server has not heard of it.
+    // The client has LINEMODE on, and the server has not received that.
     (
         "key 61\nto-client 3\nkey 62\nwish local\nflight\nsettle\nkey 7f630d\nsettle\ntake\n",
         "to-server 61fffb2262\nto-client fffd1ffffb03fffd03fffb01\ntext 61630a\n",

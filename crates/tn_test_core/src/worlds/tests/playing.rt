@@ -1,5 +1,5 @@
-//! Worlds that the tests play, and what their keys give at one line. Nothing here has a contract, so that
-//! those of a world's calls are looked at once.
+//! Worlds that the tests play, and the entries that their keys give at one line. Nothing in this
+//! file has a contract, so that those of a world's calls are looked at once.
 
 use crate::models::canonical::{entries, role_of};
 use crate::models::characters::Table;
@@ -67,20 +67,20 @@ pub(super) fn settle_with(world: &mut World, event: Event) -> Result<(), WorldFa
     settle(world)
 }
 
-// Whether a settled world is at rest.
+// Returns whether a settled world is at rest.
 pub(super) fn rests(world: &mut World) -> Result<bool, WorldFault> {
     settle(world)?;
     Ok(world.mark())
 }
 
-// Whether a settled world is at rest once this side edits.
+// Returns whether a settled world is at rest once this side edits.
 pub(super) fn rests_with(world: &mut World, editing: Editing) -> Result<bool, WorldFault> {
     settle(world)?;
     play(world, Event::Wish(editing))?;
     rests(world)
 }
 
-// How many entries wait.
+// Returns the number of entries that wait.
 pub(super) fn waiting(world: &World) -> usize {
     for count in 0..2_048 {
         if world.waiting(count).is_none() {
@@ -90,7 +90,7 @@ pub(super) fn waiting(world: &World) -> usize {
     2_048
 }
 
-// The entries of these keys at one line of at most so many bytes.
+// The entries of these keys at one line of at most this number of bytes.
 fn at_a_line(alloc: Global, keys: &[u8], most: usize) -> Vec<Entry> {
     let settings = Settings::standard();
     let table = Table::of(settings.chars);
@@ -101,7 +101,7 @@ fn at_a_line(alloc: Global, keys: &[u8], most: usize) -> Vec<Entry> {
     entries(alloc, most, &roles)
 }
 
-// What was made are the first of the entries that the keys give, and all of them at rest.
+// The entries that were made are the first of those that the keys give, and all of them at rest.
 pub(super) fn agrees(rt: &impl Abort, alloc: Global, world: &World, most: usize) {
     begins(rt, world, &at_a_line(alloc, world.typed(), most));
 }
@@ -112,7 +112,7 @@ fn begins(rt: &impl Abort, world: &World, entries: &[Entry]) {
     assert!(rt; keeps(world, rest));
 }
 
-// Whether those that wait are the first of these entries, and all of them at rest.
+// Returns whether those that wait are the first of these entries, and all of them at rest.
 fn keeps(world: &World, entries: &[Entry]) -> bool {
     for (place, entry) in entries.iter().enumerate() {
         if world.waiting(place) != Some(entry) {

@@ -22,7 +22,7 @@ impl Read for Endless {
     }
 }
 
-/// Gives a key, and then fails; it tells how many of its calls failed.
+/// A reader that gives a key, and then fails; it reports how many of its calls failed.
 #[derive(Drop)]
 pub(crate) struct Broken {
     gave: bool,
@@ -67,8 +67,8 @@ impl Source for Broken {
     }
 }
 
-/// Takes one byte at a time, so many of them, and then none or fails; it tells how many of its calls
-/// failed.
+/// A writer that takes one byte at a time, this number of them, and then none or fails; it reports
+/// how many of its calls failed.
 #[derive(Drop)]
 pub(crate) struct Narrow {
     pub(crate) taken: Vec<u8>,
@@ -153,10 +153,10 @@ fn what_cannot_be_read_prints_nothing(rt: HostRuntime) {
     cannot_read(&rt, rt.alloc(), false);
 }
 
-/// What a line gives.
+/// The output of a line.
 const WHOLE: &[u8] = b"text 610a\n";
 
-// How a line is printed to this writer.
+// Prints a line to this writer.
 fn print_line(alloc: Global, writer: &mut Narrow) -> Result<(), CliFault> {
     run_local(alloc, &mut b"a\n".as_slice(), writer)
 }

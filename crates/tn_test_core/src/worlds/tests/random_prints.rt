@@ -1,4 +1,4 @@
-//! What `tn local` and `tn replay` print, beside the definition of canonical input.
+//! The output of `tn local` and `tn replay`, compared with the definition of canonical input.
 
 use crate::models::canonical::{entries, role_of};
 use crate::models::characters::Table;
@@ -12,7 +12,7 @@ const KEYS: [u8; 6] = [b'a', 127, 21, 4, 3, 13];
 
 const KEYS_OF_CHANCE: [u8; 12] = [b'a', b'b', b'c', 0, 255, 127, 127, 21, 4, 3, 13, 10];
 
-// How often a random key is typed.
+// The number of times that a random key is typed.
 const COUNTS: [u8; 10] = [1, 1, 1, 2, 3, 4, 5, 17, 100, 254];
 
 fn put_line(lines: &mut String, entry: &Entry) {

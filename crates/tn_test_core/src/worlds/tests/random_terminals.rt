@@ -1,4 +1,4 @@
-//! Random worlds beside a local terminal.
+//! Random worlds compared with a local terminal.
 
 use super::playing::{
     ALL, agrees, open, open_with, play, play_all, rests, rests_with, settle, settle_with, types,
@@ -90,7 +90,7 @@ fn type_too_much(world: &mut World) -> Result<(), WorldFault> {
     play(world, Event::Take)
 }
 
-// The line that was taken, the first of the world, has so many bytes.
+// The line that was taken, the first of the world, has this number of bytes.
 fn has_taken(world: &World, length: usize) -> bool {
     match world.taken().first() {
         Some(Entry::Text(text)) => text.as_slice().len() == length,
@@ -124,7 +124,7 @@ fn a_line_is_full_at_its_limit_at_either_end(rt: HostRuntime) -> Result<(), Worl
     is_full(&rt, rt.alloc(), Editing::Local)
 }
 
-// Whether of these events the one at this place is refused, and why.
+// Returns whether the event at this place is refused, and why.
 fn is_refused(world: &mut World, events: &[Event], at: usize, cause: Cause) -> bool {
     play_all(world, events) == Err(WorldFault { at, cause })
 }
@@ -155,7 +155,7 @@ fn tells_what_was_typed(rt: &impl Abort, world: &World) {
     assert!(rt; world.echoed() == b"a".as_slice());
 }
 
-// What is typed at a client that edits is told, and a client that stopped does nothing.
+// The keys at a client that edits are listed, and a client that stopped does nothing.
 fn types_and_stops(rt: &impl Abort, world: &mut World) -> Result<(), WorldFault> {
     assert!(rt; rests_with(world, Editing::Local)?);
     types(world, b"a\x03\x04")?;
@@ -177,7 +177,7 @@ fn a_world_tells_what_was_typed_and_echoed(rt: HostRuntime) -> Result<(), WorldF
     types_and_stops(&rt, &mut world)
 }
 
-// What BRK gives at a terminal that no key interrupts: a signal, and no key was typed.
+// The effect of BRK at a terminal that no key interrupts: a signal, and no key was typed.
 fn interrupts_by_no_key(world: &mut World) -> Result<bool, WorldFault> {
     let events = [
         Event::Send(UserCommand::Brk),

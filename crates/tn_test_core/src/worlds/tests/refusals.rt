@@ -13,7 +13,7 @@ use tn_world::{Cause, Event, World, WorldFault};
 
 const KEYS: [u8; 7] = [b'a', b',', 127, 127, b'b', 3, 13];
 
-/// How many events there are without one that stops an end.
+/// The number of events without one that stops an end.
 const EVENTS: usize = 23;
 
 // A line is typed in two parts, erased across both, closed and taken: the event at this place.
@@ -27,7 +27,7 @@ fn event(place: usize) -> Event {
     }
 }
 
-// The keys stand at odd places, and behind each a byte comes to the server.
+// Returns the event at a place: keys at odd places, and after each a byte comes to the server.
 fn typed_or_read(place: usize) -> Event {
     match KEYS.get((place / 2).saturating_sub(1)) {
         Some(key) if place % 2 == 1 => Event::Key(*key),
@@ -35,7 +35,7 @@ fn typed_or_read(place: usize) -> Event {
     }
 }
 
-// The same events, but that the server or the client stops at one place.
+// Returns the events with one more by which the server or the client stops at one place.
 fn with_a_stop(at: usize, place: usize, server: bool) -> Event {
     match at.cmp(&place) {
         Ordering::Less => event(at),
@@ -75,7 +75,8 @@ fn an_end_that_stops_leaves_the_first_entries(rt: HostRuntime) -> Result<(), Wor
     Ok(())
 }
 
-// Whether the server refuses the last of these events for this, and so many entries are taken and wait then.
+// Returns whether the server refuses the last of these events for this, and whether this number of
+// entries are taken and wait then.
 fn refuses(world: &mut World, events: &[Event], fault: ServerFault, made: (usize, usize)) -> bool {
     let at = events.len().saturating_sub(1);
     let cause = Cause::Server(fault);
@@ -121,7 +122,8 @@ fn is_of_memory(cause: Cause) -> bool {
     )
 }
 
-// Whether what was made begins what the keys give: an interrupt, and a line of `b`.
+// Returns whether the entries that were made begin those that the keys give: an interrupt, and a
+// line of `b`.
 fn begins(world: &World) -> bool {
     let count = waiting(world);
     match world.taken() {
@@ -146,7 +148,8 @@ fn fails(rt: &impl Abort, world: &mut World) {
     }
 }
 
-// Where the toolchain refuses an allocation, a piece may fail an end: what is left agrees all the same.
+// If the toolchain refuses an allocation, a piece may fail an end: the entries that are left agree
+// all the same.
 #[test]
 fn an_end_that_fails_leaves_the_first_entries(rt: HostRuntime) {
     if let Ok(mut world) = open(rt.alloc(), Limit::standard()) {

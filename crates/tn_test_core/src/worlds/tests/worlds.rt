@@ -1,4 +1,4 @@
-//! Scripts with what they print, and where they stop.
+//! Scripts with their output, and the line at which they stop.
 
 use super::programs::Narrow;
 use crate::models::page::number_of;
@@ -11,7 +11,7 @@ fn world(alloc: Global, script: &[u8], output: &mut Vec<u8>) -> Result<(), CliFa
     run_world(alloc, &mut reader, output)
 }
 
-// Where an allocation is refused, nothing is printed, or a prefix of what would have been, up to the
+// If an allocation is refused, nothing is printed, or a prefix of what would have been, up to the
 // line whose event was refused.
 fn is_refused(ended: Result<(), CliFault>, printed: &[u8], text: &[u8]) -> bool {
     match ended {
@@ -40,7 +40,7 @@ fn tries(
     false
 }
 
-// Where an allocation is refused, a second try is compared, for which there is memory.
+// If an allocation is refused, a second try is compared, for which there is memory.
 fn plays(
     rt: &impl Abort,
     alloc: Global,
@@ -52,7 +52,7 @@ fn plays(
     assert!(rt; done || tries(rt, alloc, script, outcome, text));
 }
 
-/// A text in which `254*61` between bars stands for so many copies of these digits.
+/// A text in which `254*61` between bars stands for this number of copies of these digits.
 pub(super) fn whole(alloc: Global, text: &str) -> Result<Vec<u8>, AllocError> {
     let mut bytes = Vec::new(alloc);
     for part in text.split('|') {
@@ -64,7 +64,7 @@ pub(super) fn whole(alloc: Global, text: &str) -> Result<Vec<u8>, AllocError> {
     Ok(bytes)
 }
 
-// A script ends so and prints this, where there is memory for both.
+// A script ends so and prints this, if there is memory for both.
 fn prints(
     rt: &impl Abort,
     alloc: Global,
@@ -108,7 +108,7 @@ const SCRIPTS: &[(&str, &str)] = &[
         "mark\nsettle\nmark\nflight\n",
         "mark false\nmark true\nto-server -\nto-client -\n",
     ),
-    // A wish is answered.
+    // A request is answered.
     (
         "settle\nwish local\nflight\nto-client 10\nflight\n",
         "to-server -\nto-client fffa220103fff0fffc01\nto-server fffa220107fff0fffe01\nto-client -\n",

@@ -1,4 +1,5 @@
-//! What a client is told of a connection that is not made, and of one that is of no use any more.
+//! The lines for a client about a connection that is not made, and about one that is of no use any
+//! more.
 
 use std::alloc::{AllocError, Global};
 use std::fs::{File, Files};
@@ -33,8 +34,8 @@ pub(super) fn link(alloc: Global) -> Result<Arc<Link, Global>, AllocError> {
     Ok(Arc::new(alloc, Link::new())?)
 }
 
-/// The fault of a client's session over a port of this machine, with no trace, or `None`; and what it is told
-/// of the causes.
+/// Returns the fault of a client's session over a port of this machine, with no trace, or `None`;
+/// and the causes that were noted.
 pub(super) fn connect_here<H, K, S>(
     rt: H,
     alloc: Global,
@@ -81,7 +82,7 @@ where
     Ok((ended.err(), causes))
 }
 
-// The fault of a client without keys, and what it is told.
+// Returns the fault of a client without keys, and the causes that were noted.
 fn fault_of<H>(
     rt: H,
     alloc: Global,

@@ -97,7 +97,7 @@ impl Read for OneByOne {
     }
 }
 
-// How the session of the next connection ends, and how many entries it has.
+// Returns how the session of the next connection ends, and how many entries it has.
 fn serve_next<H: Host>(
     rt: H,
     alloc: Global,
@@ -138,7 +138,7 @@ fn a_line_comes_back_over_a_connection(rt: HostRuntime) -> Result<(), Fail> {
     Ok(())
 }
 
-/// Gives so many lines at once, and then `exit`.
+/// A reader that gives this number of lines at once, and then `exit`.
 #[derive(Drop)]
 struct Paste {
     lines: u32,
@@ -228,7 +228,7 @@ fn connections_more_than_the_limit_are_told_so(rt: HostRuntime) -> Result<(), Fa
     Ok(())
 }
 
-/// Tells at once that no more connections are to come.
+/// A condition that is met at once: no more connections are to come.
 #[derive(Drop)]
 struct Over;
 

@@ -14,8 +14,8 @@ use tn_program::{Joining, Network};
 use tn_serve::services::{LineEnd, LineFormat};
 use tn_serve::{Host, Never, Serving, serve_on};
 
-// Serves one connection, joined to the service at this port. Returns the thread, which tells whether all went
-// well, and a client of it.
+// Serves one connection, joined to the service at this port. Returns the thread, whose result is
+// whether all went well, and a client of it.
 fn join<H>(rt: H, alloc: Global, port: u16) -> Result<(JoinHandle<bool>, TcpStream), Fail>
 where
     H: Network + Host + Net<Listener = TcpListener, Stream = TcpStream>,
@@ -45,8 +45,9 @@ where
     Ok((server, client))
 }
 
-// What a line service gets in one connection, to which it says farewell once nothing more comes. It ends
-// what it says as it ends what it is told, by CR LF, which is one new line at the user.
+// Returns the bytes that a line service gets in one connection, to which it sends a farewell once
+// nothing more comes. It ends its lines as it gets them, by CR LF, which is one new line at the
+// user.
 fn listen(alloc: Global, listener: &TcpListener) -> Option<Vec<u8>> {
     let (mut stream, _) = listener.accept().ok()?;
     let mut got = Vec::new(alloc);
@@ -56,7 +57,7 @@ fn listen(alloc: Global, listener: &TcpListener) -> Option<Vec<u8>> {
     Some(got)
 }
 
-// Whether this was shown last, maybe with a GA behind it.
+// Returns whether this was shown last, maybe with a GA after it.
 fn shows(screen: &[u8], text: &[u8]) -> bool {
     screen
         .strip_suffix(b"\xff\xf9".as_slice())
@@ -64,7 +65,7 @@ fn shows(screen: &[u8], text: &[u8]) -> bool {
         .ends_with(text)
 }
 
-// What a client is sent once it has typed these keys.
+// Returns the bytes that a client is sent once it has typed these keys.
 fn screen_of(alloc: Global, mut client: TcpStream, keys: &[u8]) -> Result<Vec<u8>, Fail> {
     let mut screen = Vec::new(alloc);
     client.write_all(keys)?;
@@ -112,7 +113,7 @@ fn a_service_that_is_not_there_is_told(rt: HostRuntime) -> Result<(), Fail> {
     let screen = screen_of(alloc, client, b"")?;
     let told = b"the service cannot be reached: Connection refused (os error 111)\r\n";
     assert!(rt; shows(&screen, told));
-    // On standard error it is told, too, and why.
+    // The cause is on standard error, too.
     assert!(rt; !server.join(&rt));
     Ok(())
 }

@@ -1,5 +1,5 @@
-//! Lines typed over connections on this machine, beside one local terminal: what the foreground job takes
-//! is what `run_local` prints for the same keys.
+//! Lines typed over connections on this machine, compared with one local terminal: the entries that
+//! the foreground job takes are those that `run_local` prints for the same keys.
 
 use super::clients::{connect_here, link};
 use std::alloc::{AllocError, Global};
@@ -20,7 +20,7 @@ use tn_server::Editing;
 use tn_session::{Ended, Finish, Maker, Unwatched, serve_session};
 use tn_test_core::models::random::Random;
 
-/// How many sessions are tried, half of them with lines that the client is asked to edit.
+/// The number of sessions, half of them with lines that the client is asked to edit.
 const SESSIONS: u32 = 100;
 
 /// INTR, QUIT, SUSP, EOF, ERASE, KILL, and what closes a line.
@@ -68,14 +68,14 @@ impl<R: Clock> Read for Typist<R> {
     }
 }
 
-/// Writes down each entry that it takes, and says nothing.
+/// Writes down each entry that it takes, and answers with no text.
 #[derive(Drop)]
 struct Recorder<R> {
     rt: R,
     taken: Arc<Mutex<String>, Global>,
 }
 
-// Nothing is said of an entry.
+// Answers an entry with no text.
 fn silence(alloc: Global, after: After) -> Reaction {
     let text = Text::from(Vec::new(alloc));
     Reaction { text, after }
@@ -155,7 +155,7 @@ impl Finish for Sending {
     }
 }
 
-// Runs a server's session over a connection, and tells whether a hang-up ended it.
+// Runs a server's session over a connection, and returns whether a hang-up ended it.
 fn serve<R: Threads + Wait + Copy + Send + 'static>(
     rt: R,
     alloc: Global,
@@ -184,7 +184,7 @@ fn serve<R: Threads + Wait + Copy + Send + 'static>(
     }
 }
 
-// What the foreground job of a session took, where a hang-up ended it.
+// Returns the entries that the foreground job of a session took, if a hang-up ended it.
 fn record<R: Threads + Wait + Copy + Send + 'static>(
     rt: R,
     alloc: Global,
@@ -203,7 +203,8 @@ fn record<R: Threads + Wait + Copy + Send + 'static>(
     Some(mem::replace(&mut *guard, String::new(alloc)))
 }
 
-// What the foreground job takes of these keys, which are typed in pieces at the other end of a connection.
+// Returns the entries that the foreground job takes of these keys, which are typed in pieces at the
+// other end of a connection.
 fn typed_there<H>(
     rt: H,
     alloc: Global,
@@ -234,7 +235,7 @@ where
     Ok(if fault.is_none() { taken } else { None })
 }
 
-// What one local terminal makes of them.
+// Returns the entries that one local terminal makes of them.
 fn typed_here(alloc: Global, mut keys: &[u8]) -> Result<Vec<u8>, Fail> {
     let mut printed = Vec::new(alloc);
     run_local(alloc, &mut keys, &mut printed)?;

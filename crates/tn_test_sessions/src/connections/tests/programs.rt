@@ -1,4 +1,4 @@
-//! The program as a whole: what tells a fault, and the status.
+//! The program as a whole: the line for a fault, and the status.
 
 use std::alloc::{AllocError, Global};
 use std::fs::{File, Files};
@@ -37,8 +37,8 @@ fn words_of(alloc: Global, word: &str) -> Result<Vec<String>, AllocError> {
     Ok(words)
 }
 
-// How a run of this subcommand ends, and what it tells on standard error; `None` where there is no memory for
-// its words.
+// Returns how a run of this subcommand ends, and its lines on standard error; `None` if there is no
+// memory for its arguments.
 fn run<H, R, W>(
     rt: H,
     alloc: Global,
@@ -67,8 +67,8 @@ where
     Some((ended, errors))
 }
 
-// Whether a run ended with this status and told this, as far as there was memory, or else that there was
-// none.
+// Returns whether a run ended with this status and wrote this, as far as there was memory, or else
+// that there was none.
 fn is_told(ended: u8, errors: &[u8], status: u8, told: &[u8]) -> bool {
     if errors == b"tn: memory\n".as_slice() {
         return ended == 1;
@@ -76,11 +76,11 @@ fn is_told(ended: u8, errors: &[u8], status: u8, told: &[u8]) -> bool {
     ended == status && told.starts_with(errors)
 }
 
-/// What is told of a word that is no subcommand.
+/// The lines about an argument that is no subcommand.
 const UNKNOWN: &[u8] = b"tn: usage\nerror: unrecognized subcommand 'frobnicate'\n\n\
     Usage: tn <COMMAND>\n\nFor more information, try '--help'.\n";
 
-/// A word, whether its output can be written, what is told, and the status.
+/// An argument, whether its output can be written, the lines on standard error, and the status.
 const WORDS: &[(&str, bool, &[u8], u8)] = &[
     ("frobnicate", true, UNKNOWN, 2),
     ("local", true, b"", 0),
@@ -102,7 +102,7 @@ fn faults_are_told(rt: HostRuntime) {
     }
 }
 
-/// A script, what is told of it, and the status.
+/// A script, the lines about it, and the status.
 const SCRIPTS: &[(&[u8], &[u8], u8)] = &[
     (b"mark\nbogus\n", b"tn: line 2: bad command\n", 2),
     (b"\nset el 7f\n", b"tn: line 2: refused\n", 3),
@@ -120,7 +120,7 @@ fn the_line_of_a_fault_is_told(rt: HostRuntime) {
     }
 }
 
-/// A stream, and what is told of what is not printed of it.
+/// A stream, and the lines about the parts of it that are not printed.
 const STREAMS: &[(&[u8], &[u8])] = &[
     (b"a\r\n", b""),
     (b"a\r", b"tn: left unread: a CR\n"),
@@ -133,7 +133,7 @@ const STREAMS: &[(&[u8], &[u8])] = &[
     ),
 ];
 
-// Out of memory for the lines, this is told, and the status stays 0.
+// Out of memory for the lines, this is written, and the status stays 0.
 fn is_unread_told(ended: u8, errors: &[u8], told: &[u8]) -> bool {
     if ended == 0 && errors == b"tn: memory\n".as_slice() {
         return !told.is_empty();

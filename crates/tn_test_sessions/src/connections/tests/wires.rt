@@ -1,5 +1,6 @@
-//! What two sessions over one connection read and wrote, recorded at its calls: at each step what either has
-//! read begins what the other has written. No contract can say that of a socket.
+//! The bytes that two sessions over one connection read and wrote, recorded at its calls: at each
+//! step the bytes that either has read begin those that the other has written. No contract can
+//! state that of a socket.
 
 use std::alloc::{AllocError, Global};
 use std::fs::{File, Files};
@@ -16,7 +17,7 @@ use tn_serve::services::Answerers;
 use tn_server::Editing;
 use tn_session::{Ended, Finish, Unwatched, client_session, serve_session};
 
-/// What went one way, and how much of it was read.
+/// The bytes that went one way, and how much of them was read.
 #[derive(Drop)]
 struct Way {
     written: Vec<u8>,
@@ -29,7 +30,7 @@ impl Way {
         Way { written, read: 0 }
     }
 
-    // Whether these bytes are the next of those that were written.
+    // Returns whether these bytes are the next of those that were written.
     fn gives(&mut self, bytes: &[u8]) -> bool {
         let rest = self.written.get(self.read..).unwrap_or(&[]);
         self.read = self.read.saturating_add(bytes.len());
@@ -88,7 +89,7 @@ impl<R: Wait> Read for End<R> {
 }
 
 impl<R: Wait> Write for End<R> {
-    // What is read meanwhile is recorded after this.
+    // Bytes that are read meanwhile are recorded after this.
     fn write(&mut self, buf: &[u8]) -> io::Result<usize> {
         let mut wire = self.wire.lock(&self.rt);
         let count = self.stream.write(buf)?;
@@ -129,7 +130,7 @@ fn ends<R: Copy>(
     Some((reader, writer))
 }
 
-// How many entries a server's session takes, which ends without a fault.
+// Returns the number of entries that a server's session takes, which ends without a fault.
 fn serve<R: Threads + Wait + Copy + Send + 'static>(
     rt: R,
     alloc: Global,

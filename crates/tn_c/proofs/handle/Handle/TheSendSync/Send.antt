@@ -1,4 +1,4 @@
--- What a handle owns says the same to every thread.
+-- The resources that a handle owns are the same for every thread.
 use mathlib.Core.List.{[]}
 use base.Shift.{Keyless}
 use denote.Exit.{Exit, unchanged, leaves, hidden, under}
@@ -17,7 +17,7 @@ quiet : {D X : Type 0} (to : D → X) (e : Exit X) → Quiet e → Quiet (hidden
 quiet to unchanged q = λ x w. tt
 quiet to (leaves L l S s r₀) q = λ d. q (to d)
 
--- as a box of what is held does
+-- a handle owns resources as a box of what it holds does
 owns_keyless : (alloc : Global) (p : Ptr) (o : Option Held.the_row.Denot) → Keyless (handle_owns alloc p o)
 owns_keyless alloc p None = tt
 owns_keyless alloc p (Some x) = ((heap.Box-send Held.the_row held).owned (record { ptr = p; alloc = alloc; value = x }) []).1

@@ -43,7 +43,7 @@ use Rattle.tn_c.specs.contracts.unboxed.Unboxed.into_box as F
 use Rattle.tn_c.specs.contracts.unboxed.Unboxed.into_box.Key.{name as #self}
 use Rattle.tn_c.proofs.unboxed.Unboxed.into_box.Code as code
 
--- what runs once `from_raw` has returned
+-- the code that runs once `from_raw` has returned
 abbrev returning : Body
 returning = seq (assign (place 0 []) (rv_opd (copy (place 4 [])))) return
 

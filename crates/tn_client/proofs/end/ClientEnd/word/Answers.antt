@@ -7,7 +7,7 @@ use Rattle.tn_client.specs.{Terms.{mode_at, tells_size}, Replies.{end_of_edit_it
 use Rattle.tn_linemode.proofs.lemmas.Cutting.{cut_after_two, front_some, back_some}
 use Rattle.tn_client.proofs.end.ClientEnd.word.Goals as goal
 
--- what is held, the answer, and the size
+-- the held bytes, the answer, and the size
 abbrev first : Options → ℕ → List ℕ → Item → List Item
 first o m held item = end_of_edit_items (edits m) (edits (mode_at o m item)) held
 

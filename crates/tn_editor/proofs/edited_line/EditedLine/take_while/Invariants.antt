@@ -2,7 +2,7 @@ use Rattle.std.proofs.Common.{◌≡◌, ◌+◌, length, take}
 use Rattle.tn_editor.specs.{Grouping.past, EditedLines.{is_parting, weigh}}
 use Rattle.tn_editor.proofs.edited_line.EditedLine.take_while.Given as goal
 
--- what is there yet gives what is asked of all of it, and nothing but its last characters is gone
+-- the characters that are left give the result for all of them, and only last characters are gone
 abbrev pub invariant-loop : goal.invariant-loop
 invariant-loop l =
     record {

@@ -2,7 +2,7 @@ use Rattle.std.proofs.Common.{◌≡◌, take}
 use Rattle.tn_lines.specs.{Edges.shown_from, Said.ends_in_return}
 use Rattle.tn_lines.proofs.left_edge.LeftEdge.take.Given as goal
 
--- what is shown of the bytes so far
+-- the bytes that are shown of the bytes so far
 abbrev pub invariant-loop-byte : goal.invariant-loop-byte
 invariant-loop-byte l =
     record {

@@ -2,7 +2,7 @@ use Rattle.std.proofs.Common.{◌≡◌, take}
 use Rattle.tn_lines.specs.Said.{said_from, ends_in_return}
 use Rattle.tn_lines.proofs.lines.Lines.take.Given as goal
 
--- what is said of the bytes so far
+-- the bytes to be sent for the bytes so far
 abbrev pub invariant-loop-byte : goal.invariant-loop-byte
 invariant-loop-byte l =
     record {

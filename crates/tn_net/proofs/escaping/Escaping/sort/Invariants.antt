@@ -1,4 +1,4 @@
--- What these first bytes gave is kept and obeyed, and there is room for the others.
+-- The inputs of these first bytes are kept and obeyed, and there is room for the others.
 use Rattle.std.proofs.Common.{◌≤◌, ◌+◌}
 use Rattle.std.specs.VecDeque.{deque_len, deque_capacity}
 use Rattle.tn_net.proofs.Sorting.{IsSorted}

@@ -2,7 +2,7 @@ use Rattle.std.proofs.Common.{◌≡◌, ◌+◌, ◌≤◌, ◌++◌, length, t
 use Rattle.tn_serve.specs.services.NewLines.{ends_by_return, settled, waiting}
 use Rattle.tn_serve.proofs.services.showing.settle.Given as goal
 
--- what is shown of the bytes so far stands behind, and there is room for the others
+-- the text of the bytes so far stands at the end, and there is room for the others
 abbrev pub invariant-loop-byte : goal.invariant-loop-byte
 invariant-loop-byte l =
     record {

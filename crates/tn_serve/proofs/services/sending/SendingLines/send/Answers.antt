@@ -3,7 +3,7 @@ use Rattle.tn_serve.specs.{services.Sending.{WritesBytes, way_after}, declared.s
 use Rattle.tn_cores.specs.streams.{Known.KnownWriting, Writing.{Writes, Tells}}
 use Rattle.tn_serve.proofs.services.sending.SendingLines.send.Goals as goal
 
--- what was written is these bytes
+-- the bytes that were written are these
 writes : (bytes sent : List ℕ) (writer : KnownWriting) (way : Way) (whole : Bool) → way ≡ way_after whole → sent ≡ bytes
     → Writes whole writer.before.bytes writer.after.bytes sent → Tells whole writer.before.calls writer.after.calls
     → WritesBytes bytes writer way
