@@ -3,14 +3,15 @@ import contextlib
 import re
 import select
 import socket
+import subprocess
 import threading
 import time
 
 import services
-from ends import NO_GO_AHEAD, Peer, Serving, User, filled
+from ends import BRK, DO, DONT, IAC, IP, LINEMODE, NAWS, NO_GO_AHEAD, SB, SE, WILL, WONT, Peer, Serving, User, filled, mode, size
 from services import Service, answering, answering_returns
 from sockets import sockets_of, unread
-from world import NotTried, case, expect, expect_in_order, expect_same, free_port, wait_until, within
+from world import NotTried, case, expect, expect_in_order, expect_same, free_port, shortened, wait_until, within
 
 
 def joined(world, talk, *words, **settings):
@@ -566,3 +567,217 @@ def signals_go_to_a_service_that_wants_them(world, *words):
 def signals_make_sense_only(world, lack, *words):
     ran = world.run("serve", "--port", "7", *words)
     expect(ran.returncode == 2 and lack.encode() in ran.stderr, f"wanted {lack}, got {ran}")
+
+
+TTYPE, ABORT, SUSP, EOF = 24, 238, 237, 236
+
+
+class Said:
+    """What a case's service says in Telnet, and what a client answers."""
+    go_ahead = bytes([IAC, WILL, 3])
+    echo = bytes([IAC, WILL, 1])
+    kind = bytes([IAC, DO, TTYPE])
+    asks_kind = bytes([IAC, SB, TTYPE, 1, IAC, IAC, IAC, SE])
+    window = bytes([IAC, DO, NAWS])
+    lines = bytes([IAC, DO, LINEMODE])
+
+    agrees_go_ahead = bytes([IAC, DO, 3])
+    refuses_echo = bytes([IAC, DONT, 1])
+    refuses_kind = bytes([IAC, WONT, TTYPE])
+    agrees_window = bytes([IAC, WILL, NAWS])
+    agrees_lines = bytes([IAC, WILL, LINEMODE])
+
+
+def doubled(data):
+    return data.replace(b"\xff", b"\xff\xff")
+
+
+NEGOTIATION = (Said.go_ahead + b"lo" + Said.echo + b"gin" + Said.kind + b": " + Said.asks_kind + Said.window + b"\xff\xff\r\n\xff\xf9.\r\0.\r\n")
+ANSWERS = Said.agrees_go_ahead + Said.refuses_echo + Said.refuses_kind + Said.agrees_window + size(0, 0)
+
+
+@case(each={f"{name}, {kind}": (pieces, *words) for name, pieces in (("at once", len(NEGOTIATION)), ("in pieces", 1))
+            for kind, words in (("edited at the server", ()), ("edited at the client", ("--local",)))})
+def a_service_is_spoken_to_in_telnet(world, pieces, *words):
+    """Its text is shown, its words are answered in order, and the byte 255 goes doubled both ways; nothing is noted."""
+    def talk(service, connection):
+        connection.setsockopt(socket.IPPROTO_TCP, socket.TCP_NODELAY, 1)
+        for at in range(0, len(NEGOTIATION), pieces):
+            connection.sendall(NEGOTIATION[at:at + pieces])
+            time.sleep(0.005)
+        while len(service.got) < len(ANSWERS):
+            service.read(connection)
+        answering(service, connection)
+
+    service, serving = joined(world, talk, "--to-telnet", *words)
+    user = User(world, serving.port, "--width", "0", "--height", "0", edits=editing(words))
+    user.screen.wait_for(b"login: \xff\r\n.\r.\r\n")
+    service.wait_for(ANSWERS)
+    user.type(b"helo\x7flo \xff.\r", b"got hello \xff.\r\n")
+    user.type(b"\x04", b"farewell\r\n")
+    user.end()
+    expect_same(ANSWERS + b"hello \xff\xff.\r\n", service.end(), "what the service got")
+    serving.end()
+
+
+@case(each={" ".join(words) or "as they are": (end, *words) for end, words in
+            ((b"\r\n", ()), (b"\r\n", ("--crlf",)), (b"\r\0", ("--cr",)))})
+def lines_go_in_telnet_with_their_ends(world, end, *words):
+    service, serving = joined(world, services.listening, "--to-telnet", *words)
+    user = User(world, serving.port, edits="server")
+    user.type(b"one\r\rhalf\x04\x04", b"bye\r\n")
+    user.end()
+    expect_same(b"one" + end + end + b"half", service.end(), "what the service got")
+    serving.end()
+
+
+@case
+def answers_to_a_service_do_not_cut_lines(world):
+    """Also while it reads late: each goes between two lines, in order."""
+    line = b"y" * 200 + b"\xff"
+
+    def talk(service, connection):
+        for option in range(100, 200):
+            connection.sendall(bytes([IAC, DO, option]))
+            time.sleep(0.005)
+        service.hold()
+        services.listening(service, connection)
+
+    service, serving = joined(world, talk, "--to-telnet", buffer=4_096)
+    peer = peer_of(world, serving)
+    narrow(service, serving)
+    for _ in range(100):
+        peer.send(doubled(line) + b"\r\0")
+        time.sleep(0.005)
+    service.go_on.set()
+    expect_in_order(peer.leave(), b"bye\r\n")
+    got = service.end()
+    expect(re.fullmatch(rb"(?:\xff\xfc.|y{200}\xff\xff\r\n)*", got, re.DOTALL), f"an answer stands within a line: {shortened(got)}")
+    expect_same(bytes(range(100, 200)), b"".join(re.findall(rb"\xff\xfc(.)", got, re.DOTALL)), "the options that are refused")
+    expect_same(100, got.count(b"\r\n"), "the count of lines")
+    serving.end()
+
+
+KEYS = b"\x03\x1a\x1c\x04"
+BY_LINE = bytes([IAC, IP, 26, IAC, BRK, 4])
+BY_MODE = bytes([IAC, IP, IAC, SUSP, IAC, ABORT, IAC, EOF])
+
+
+@case(each={"that takes lines": (b"", b"", BY_LINE), "that takes keys": (Said.go_ahead, Said.agrees_go_ahead, KEYS),
+            "that traps signals": (Said.lines + mode(3), Said.agrees_lines + mode(7), BY_MODE),
+            "that traps none": (Said.lines + mode(0), Said.agrees_lines, KEYS)})
+def signals_go_in_telnet_to_a_service(world, said, answers, sent):
+    def talk(service, connection):
+        connection.sendall(said)
+        while (answers + sent)[-1:] not in service.got[len(answers):] and service.read(connection):
+            connection.sendall(b"got %d\n" % len(service.got))
+        connection.sendall(b"logout\n")
+
+    service, serving = joined(world, talk, "--to-telnet", "--signals", "send")
+    user = User(world, serving.port, edits="server")
+    service.wait_for(answers)
+    for key in KEYS:
+        after = len(service.got)
+        user.type(bytes([key]))
+        wait_until(lambda: len(service.got) > after, "the service gets the signal")
+    user.screen.wait_for(b"logout\r\n")
+    user.end()
+    expect_same(answers + sent, service.end(), "what the service got")
+    serving.end()
+
+
+@case
+def a_service_hears_of_the_window_of_its_user(world):
+    def talk(service, connection):
+        while b"\n" not in service.got:
+            service.read(connection)
+        connection.sendall(Said.window)
+        services.listening(service, connection)
+
+    service, serving = joined(world, talk, "--to-telnet")
+    user = User(world, serving.port, "--width", "100", "--height", "40", edits="server")
+    user.type(b"ready\r")
+    service.wait_for(b"ready\r\n" + Said.agrees_window + size(100, 40))
+    user.end()
+    serving.end()
+
+
+@case(each={"which edits": (), "whose client edits": ("--local",)})
+def our_own_server_is_a_service(world, *words):
+    """Both ends of the second connection are ours too. The user's terminal shows each line once, since the echo is refused."""
+    inner = Serving(world, *words)
+    serving = Serving(world, "--to", f"127.0.0.1:{inner.port}", "--to-telnet", "--signals", "send")
+    user = User(world, serving.port, edits="server")
+    user.type(b"helo\x7flo\r", b"helo\x08 \x08lo\r\nhello\r\n")
+    user.type(b"\x03", b"int\r\n")
+    user.type(b"\x1c", b"quit\r\n")
+    user.type(b"exit\r", b"bye\r\n")
+    user.end()
+    inner.end()
+    serving.end()
+
+
+def start_chatd(world):
+    port = free_port()
+    world.start("telnet-chatd", str(port), stdout=subprocess.DEVNULL, stderr=subprocess.DEVNULL)
+    return services.listened(port)
+
+
+def start_busybox(world):
+    port = free_port()
+    world.start("busybox", "telnetd", "-F", "-p", str(port), "-l", "/bin/cat")
+    return services.listened(port)
+
+
+def start_telnetd(world):
+    port = free_port()
+    world.start("socat", f"TCP-LISTEN:{port},bind=127.0.0.1", "EXEC:/usr/sbin/telnetd -h -E /bin/cat,nofork", stderr=subprocess.DEVNULL)
+    return services.listened(port)
+
+
+CHATD = start_chatd, [(b"", b"Enter name: "), (b"anx\x7fn\r", b"Welcome, ann!"), (b"hi\r", b"ann: hi\r\n")]
+LOGINS = [(b"helo\x7flo\r", b"hello\r\nhello\r\n"), (b"\x03", b"^C")]
+
+
+@case(wants=["telnet-chatd"], each={"telnet-chatd": CHATD})
+@case(wants=["busybox"], each={"busybox": (start_busybox, LOGINS)})
+@case(wants=["/usr/sbin/telnetd", "socat"], each={"telnetd": (start_telnetd, LOGINS)})
+def another_makers_service_is_spoken_to_in_telnet(world, start, steps):
+    """The last two echo although that was refused, so that the user sees a line twice before it comes back."""
+    serving = Serving(world, "--to", f"127.0.0.1:{start(world)}", "--to-telnet", "--signals", "send")
+    user = User(world, serving.port, edits="server")
+    for keys, answer in steps:
+        user.type(keys, answer) if keys else user.screen.wait_for(answer)
+    user.end()
+    serving.end()
+
+
+@case
+def a_service_that_asks_and_reads_nothing_is_not_read_for_ever(world):
+    """It is answered as long as it takes that. Its user may leave it."""
+    def talk(service, connection):
+        connection.settimeout(0.2)
+        while not service.go_on.is_set():
+            with contextlib.suppress(TimeoutError):
+                connection.send(bytes([IAC, DO, 99]) * 1_000)
+
+    service, serving = joined(world, talk, "--to-telnet", buffer=4_096)
+    peer = peer_of(world, serving).is_served()
+    narrow(service, serving)
+    port = once_joined(service, serving)[0].getsockname()[1]
+    waiting = []
+
+    def is_left():
+        waiting.append(unread(port, service.port))
+        return len(waiting) > 5 and waiting[-1] > 0 and len(set(waiting[-5:])) == 1
+    wait_until(is_left, "no more is read of the service", pause=0.5)
+    peer.send(b"one\r\0\x03")
+    peer.read_to_end()
+    service.go_on.set()
+    serving.end()
+
+
+@case
+def telnet_makes_sense_to_a_service_only(world):
+    ran = world.run("serve", "--port", "7", "--to-telnet")
+    expect(ran.returncode == 2 and b"'--to-telnet' needs '--to'" in ran.stderr, f"got {ran}")

@@ -103,6 +103,7 @@ lines_as asked =
       limit = asked.line_limit;
       ends_cut = asked.ends_cut;
       sends_signals = asked.sends_signals;
+      speaks_telnet = asked.to_telnet;
     }
 
 -- the jobs are still to be joined, over this network, to the service at this host and port, which is dialled

@@ -181,6 +181,7 @@ pub(crate) fn lines_of(asked: &tn_cli::arguments::ServeWords) -> LineFormat
         limit: asked.line_limit,
         ends_cut: asked.ends_cut,
         sends_signals: asked.sends_signals,
+        speaks_telnet: asked.to_telnet,
     }
 }
 

@@ -1,3 +1,4 @@
+pub mod Spelled
 pub mod Ends
 pub mod Talks
 pub mod Shown

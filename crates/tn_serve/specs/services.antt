@@ -7,5 +7,6 @@ pub mod NewLines
 pub mod Sending
 pub mod Showing
 pub mod Talks
+pub mod Telnet
 pub mod Answerers
 pub mod Answering

@@ -14,7 +14,8 @@
 //! ```
 //!
 //! The jobs have no link to a terminal: a session passes them the typed entries. A gateway waits
-//! only for its reader and its writer. A session ends its jobs. The end of the service ends only
+//! only for its reader and its writer. A `Joiner` speaks Telnet to its service, as a client, if
+//! `LineFormat::speaks_telnet` is true. A session ends its jobs. The end of the service ends only
 //! the job in the background, so the owner of the session's connection hangs up, as a `Joiner` does
 //! by its hook.
 
@@ -42,6 +43,9 @@ mod joint;
 pub mod laws;
 mod line_ends;
 mod makers;
+mod outbox;
 mod sending;
 mod showing;
+mod talking;
 mod telnet;
+mod telnet_side;

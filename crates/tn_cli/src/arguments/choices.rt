@@ -4,7 +4,7 @@ use crate::arguments::options::{
     AGAIN, BANNER, BIND, COUNT, CR, CRLF, DIAL, DRAIN, ESCAPE, FOREVER, HEIGHT, IDLE, IPV4, IPV6,
     KEYS, LF, LIMIT, LINE, LINE_CUT, LISTEN_FD, LOCALLY, LOG, LOG_TIMES, LONGEST, METRICS, MODE,
     NO_HISTORY, NOTES, PATIENCE, PER_HOST, PLAIN, PROXIED, QUIET, RETURN, SIGNALS, STDIN, TEXT,
-    TICKS, TIMEOUT, TO, TRACE, UNTIL, VERBOSE, WAIT, WIDTH, Whole,
+    TICKS, TIMEOUT, TO, TO_TELNET, TRACE, UNTIL, VERBOSE, WAIT, WIDTH, Whole,
 };
 
 /// An option of a subcommand, or a place for a word without a name before it. The value of an option has a name in
@@ -150,6 +150,10 @@ pub(crate) const SERVE_GROUPS: &[Group] = &[
                 BANNER,
                 "FILE",
                 "Show each client what FILE has when the server starts, before the service's words",
+            ),
+            Choice::Flag(
+                TO_TELNET,
+                "Speak Telnet to the service, as a client: send lines as data, and answer its options",
             ),
             Choice::Flag(
                 CRLF,

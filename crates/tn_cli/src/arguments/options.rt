@@ -204,3 +204,5 @@ pub(crate) const CRLF: &str = "crlf";
 pub(crate) const LINE_CUT: &str = "line-cut";
 
 pub(crate) const SIGNALS: &str = "signals";
+
+pub(crate) const TO_TELNET: &str = "to-telnet";

@@ -6,7 +6,7 @@ ghost use Rattle.tn_cli.specs.arguments.Ranges.{AreServeNumbersWithin, IsWithin,
 use crate::arguments::lacks::{Lack, NO_NUMBER, lacking, no_value};
 use crate::arguments::options::{
     BANNER, COUNT, CR, CRLF, DIAL, DRAIN, FOREVER, IDLE, LIMIT, LINE, LINE_CUT, LOCALLY, LONGEST,
-    METRICS, MOST_PATH, NOTES, PER_HOST, PROXIED, SIGNALS, TICKS, TO, UNTIL, VERBOSE,
+    METRICS, MOST_PATH, NOTES, PER_HOST, PROXIED, SIGNALS, TICKS, TO, TO_TELNET, UNTIL, VERBOSE,
 };
 use crate::arguments::settings::{Address, ServeWords};
 use crate::arguments::sockets::{hosts_of, socket_of};
@@ -27,6 +27,8 @@ const NO_SERVICE_LINE_END: &str = "'--crlf' and '--cr' exclude each other, and n
 const NO_SERVICE: &str = "'--line-cut' needs '--to'";
 
 const NO_SERVICE_FOR_SIGNALS: &str = "'--signals' needs '--to'";
+
+const NO_SERVICE_FOR_TELNET: &str = "'--to-telnet' needs '--to'";
 
 const NO_SIGNALS: &str = "'--signals <WHAT>': it is neither `act` nor `send`";
 
@@ -85,6 +87,7 @@ pub(crate) fn serving(alloc: Global, words: &ArgMatches<'_>) -> Result<ServeWord
         line_end: choices.line_end,
         ends_cut: choices.ends_cut,
         sends_signals: choices.sends_signals,
+        to_telnet: choices.to_telnet,
     })
 }
 
@@ -123,6 +126,7 @@ struct ServeChoices {
     line_end: LineEnd,
     ends_cut: bool,
     sends_signals: bool,
+    to_telnet: bool,
     logfmt: bool,
     count: Option<u32>,
 }
@@ -134,6 +138,7 @@ fn serve_choices<'a>(words: &ArgMatches<'a>) -> Result<ServeChoices, Lack<'a>>
         line_end: service_line_end(words)?,
         ends_cut: ends_cut(words)?,
         sends_signals: sends_signals(words)?,
+        to_telnet: to_telnet(words)?,
         logfmt: logfmt(words)?,
         count: count(words)?,
     })
@@ -151,7 +156,7 @@ fn service_line_end<'a>(words: &ArgMatches<'a>) -> Result<LineEnd, Lack<'a>> {
     }
 }
 
-// Whether a line that may have been cut ends its session.
+// Whether a line that may have been truncated ends its session.
 fn ends_cut<'a>(words: &ArgMatches<'a>) -> Result<bool, Lack<'a>> {
     match words.get_str(LINE_CUT) {
         None => Ok(false),
@@ -170,6 +175,15 @@ fn sends_signals<'a>(words: &ArgMatches<'a>) -> Result<bool, Lack<'a>> {
         Some("act") => Ok(false),
         Some("send") => Ok(true),
         Some(text) => Err(Lack::Value(text, NO_SIGNALS)),
+    }
+}
+
+// Whether the service is spoken to in Telnet.
+fn to_telnet<'a>(words: &ArgMatches<'a>) -> Result<bool, Lack<'a>> {
+    match (is_given(words, TO), is_flagged(words, TO_TELNET)) {
+        (_, false) => Ok(false),
+        (true, true) => Ok(true),
+        (false, true) => Err(Lack::Words(NO_SERVICE_FOR_TELNET)),
     }
 }
 

@@ -166,8 +166,10 @@ pub struct ServeWords {
     /// Whether a line that may have been truncated ends its session, in place of going to that
     /// service.
     pub ends_cut: bool,
-    /// Whether signals and the end of file go to that service as their bytes.
+    /// Whether signals and the end of file go to that service.
     pub sends_signals: bool,
+    /// Whether that service is spoken to in Telnet.
+    pub to_telnet: bool,
 }
 
 /// The key by which the user at a terminal speaks to the client itself.

@@ -36,6 +36,8 @@ pub struct LineFormat {
     /// Whether signals and the end of file go to the service as the bytes of ^C, ^\, ^Z and ^D, and do nothing
     /// else.
     pub sends_signals: bool,
+    /// Whether they go in Telnet, and what the service says is read as such.
+    pub speaks_telnet: bool,
 }
 
 impl LineFormat {

@@ -12,12 +12,13 @@ use crate::services::hanging_up::HangUp;
 use crate::services::joining::Gateway;
 use crate::services::joint::{Heard, Joint, LOOK, Told};
 use crate::services::makers::Gateways;
+use crate::services::telnet_side::TelnetSide;
 use std::alloc::{AllocError, Global};
 use std::io;
 use std::io::{ErrorKind, Read, Write};
 use std::net::{Shutdown, TcpStream};
 use std::sync::atomic::{AtomicBool, Ordering};
-use std::sync::{Arc, OnceLock, Wait};
+use std::sync::{Arc, Mutex, OnceLock, Wait};
 use std::time::{Clock, Duration};
 use tn_cores::streams::is_interrupted;
 use tn_net::network::Network;
@@ -91,6 +92,15 @@ impl<H, N> Joiner<H, N> {
     }
 }
 
+// The client's side of a talk in Telnet, if lines go so.
+fn telnet_of(alloc: Global, lines: LineFormat) -> Result<Option<Mutex<TelnetSide>>, AllocError> {
+    if !lines.speaks_telnet {
+        return Ok(None);
+    }
+    let side = TelnetSide::new(alloc, lines.sends_signals)?;
+    Ok(Some(Mutex::new(side)))
+}
+
 impl<H: Clock + Copy + Network + Wait, N: Drop> Joiner<H, N> {
     // Makes the connection to the service, which is still to be dialled.
     fn joint(&self, alloc: Global) -> Result<Arc<Joint, Global>, AllocError>
@@ -105,6 +115,7 @@ impl<H: Clock + Copy + Network + Wait, N: Drop> Joiner<H, N> {
             patience: self.patience,
             stream: OnceLock::new(),
             given_up: AtomicBool::new(false),
+            telnet: telnet_of(alloc, self.lines)?,
         };
         Ok(Arc::new(alloc, joint)?)
     }

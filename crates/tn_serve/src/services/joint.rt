@@ -1,17 +1,20 @@
 //! The connection to a line service, which is made while its session runs.
 
-ghost use Rattle.std.specs.{Io.{ReadsAtMost, KnownBytes.ReadConsumes}, Prelude.{◌≡◌, None, string_bytes}};
+ghost use Rattle.std.specs.Io.{ReadsAtMost, KnownBytes.ReadConsumes};
+ghost use Rattle.std.specs.Prelude.{◌≡◌, ◌≤◌, None, IfOk, IfSome, length, string_bytes};
 ghost use Rattle.tn_net.specs.network.Asked.{ReachesService, names_path};
 ghost use Rattle.tn_serve.specs.services.Dialing.{unreached};
 
 use crate::services::cutting::{Greets, HearsTelnet};
 use crate::services::dialing::Pacing;
+use crate::services::talking::{hear, say};
 use crate::services::telnet::Speech;
+use crate::services::telnet_side::TelnetSide;
 use std::alloc::Global;
 use std::io::{ErrorKind, Read, Write};
 use std::net::{Shutdown, TcpStream};
 use std::sync::atomic::{AtomicBool, Ordering};
-use std::sync::{Arc, OnceLock, Wait};
+use std::sync::{Arc, Mutex, OnceLock, Wait};
 use std::time::{Clock, Duration, Instant};
 use std::{io, thread};
 use tn_net::network::{Network, reach_service};
@@ -32,7 +35,7 @@ const WAITED: u64 = 900;
 /// between them.
 const WAITS: u8 = 25;
 
-const WAIT: u64 = 10;
+pub(crate) const WAIT: u64 = 10;
 
 /// The text that a user reads in place of the service's bytes, before the cause.
 const UNREACHED: &[u8] = b"the service cannot be reached";
@@ -48,6 +51,8 @@ pub struct Joint {
     pub(crate) stream: OnceLock<TcpStream>,
     /// The service is not dialled any more.
     pub(crate) given_up: AtomicBool,
+    /// The client's side of a talk in Telnet, if that is spoken.
+    pub(crate) telnet: Option<Mutex<TelnetSide>>,
 }
 
 impl Joint {
@@ -68,6 +73,20 @@ impl Joint {
 
     fn is_given_up(&self) -> bool {
         self.given_up.load(Ordering::SeqCst)
+    }
+
+    // Sends bytes of a line. `None` if the other job sends something meanwhile.
+    fn send<R: Wait>(&self, rt: &R, stream: &TcpStream, line: &[u8]) -> io::Result<Option<usize>>
+        ensures { IfOk result (λ sent. IfSome sent (λ count. count ≤ length line.now)) }
+    {
+        match &self.telnet {
+            Some(telnet) => say(rt, telnet, stream, line),
+            None => {
+                let mut stream = stream;
+                let count = stream.write(line)?;
+                Ok(Some(count))
+            },
+        }
     }
 }
 
@@ -229,6 +248,9 @@ impl<H: Clock + Copy + Network + Wait, N: Greets + HearsTelnet + Drop> Read for 
             return self.greet(buf);
         }
         if let Some(stream) = self.joint.stream.get() {
+            if let Some(telnet) = &self.joint.telnet {
+                return hear(&self.rt, telnet, stream, &self.hook, buf);
+            }
             let mut stream = stream;
             let count = stream.read(buf)?;
             return keep_text(&mut self.speech, &self.notes, count, buf);
@@ -291,15 +313,26 @@ impl<H> Told<H> {
     }
 }
 
-impl<H: Clock + Drop> Write for Told<H> {
+impl<H: Clock + Wait> Told<H> {
+    // Writes once the service is reached. `None` if that is to be tried again, after a short time.
+    fn try_write(&self, buf: &[u8]) -> io::Result<Option<usize>>
+        ensures { IfOk result (λ sent. IfSome sent (λ count. count ≤ length buf.now)) }
+    {
+        if let Some(stream) = self.joint.stream.get() {
+            return self.joint.send(&self.rt, stream, buf);
+        }
+        if self.joint.is_given_up() || self.hook.is_over() {
+            return Err(io::Error::from(ErrorKind::NotConnected));
+        }
+        Ok(None)
+    }
+}
+
+impl<H: Clock + Drop + Wait> Write for Told<H> {
     fn write(&mut self, buf: &[u8]) -> io::Result<usize> {
         for _ in 0..WAITS {
-            if let Some(stream) = self.joint.stream.get() {
-                let mut stream = stream;
-                return stream.write(buf);
-            }
-            if self.joint.is_given_up() || self.hook.is_over() {
-                return Err(io::Error::from(ErrorKind::NotConnected));
+            if let Some(count) = self.try_write(buf)? {
+                return Ok(count);
             }
             thread::sleep(&self.rt, Duration::from_millis(WAIT));
         }

@@ -15,13 +15,13 @@ use tn_jobs::{After, Reaction};
 use tn_session::Finish;
 
 /// The keys of signals and of the end of file at a terminal with standard settings.
-const INTERRUPT: u8 = 3;
+pub(crate) const INTERRUPT: u8 = 3;
 
-const QUIT: u8 = 28;
+pub(crate) const QUIT: u8 = 28;
 
-const STOP: u8 = 26;
+pub(crate) const STOP: u8 = 26;
 
-const END_OF_FILE: u8 = 4;
+pub(crate) const END_OF_FILE: u8 = 4;
 
 /// Whether lines still go to the service.
 #[derive(Clone, Copy, PartialEq, Eq)]

@@ -112,7 +112,7 @@ fn settle_byte(waited: bool, byte: u8, text: &mut Vec<u8>) -> bool
 
 // Appends the text of these bytes and of the carriage return that waited before them, to a text
 // that has room. It returns whether one waits after the call.
-fn settle(waited: bool, bytes: &[u8], text: Vec<u8>) -> (Vec<u8>, bool)
+pub(crate) fn settle(waited: bool, bytes: &[u8], text: Vec<u8>) -> (Vec<u8>, bool)
     requires { vec_len text + 1 + length bytes.now ≤ vec_capacity text }
     ensures items { result.0.items ≡ text.items ++ settled (waiting waited ++ bytes.now) }
     ensures waits { result.1 ≡ ends_by_return (waiting waited ++ bytes.now) }

@@ -41,19 +41,19 @@ const ASKED: &[(&str, &str)] = &[
          sessions: 8, per_host: None, count: Some(1), until: None, ticks: 0, line_limit: Limit { \
          bytes: 255 }, idle: None, longest: 0, drain: 5, dial: 10, proxied: false, local: false, \
          verbose: false, logfmt: false, metrics: None, banner: None, to: None, line_end: Lf, \
-         ends_cut: false, sends_signals: false })",
+         ends_cut: false, sends_signals: false, to_telnet: false })",
     ),
     (
         "tn serve --limit=64 --count 1000000 --ticks=1000 --host ::1 --line 4095 --idle 86400 --until \
          /run/end --drain 86399 --dial 1 --proxy --per-host 2 --longest=3600 --local --verbose \
          --notes logfmt --metrics /m --banner /b --port=2323 --to [::1]:7 --crlf --line-cut end \
-         --signals send",
+         --signals send --to-telnet",
         "Serve(ServeWords { hosts: [\"::1\"], socket: Socket { port: 2323, handed: None }, sessions: \
          64, per_host: Some(2), count: Some(1000000), until: Some(\"/run/end\"), ticks: 1000, \
          line_limit: Limit { bytes: 4095 }, idle: Some(86400), longest: 3600, drain: 86399, dial: 1, \
          proxied: true, local: true, verbose: true, logfmt: true, metrics: Some(\"/m\"), banner: \
          Some(\"/b\"), to: Some(Address { host: \"::1\", port: 7 }), line_end: CrLf, ends_cut: true, \
-         sends_signals: true })",
+         sends_signals: true, to_telnet: true })",
     ),
     (
         "tn serve --forever --host unix:/a --host=unix:b --cr --to unix:/s --line-cut=send --signals \
@@ -62,7 +62,7 @@ const ASKED: &[(&str, &str)] = &[
          }, sessions: 8, per_host: None, count: None, until: None, ticks: 0, line_limit: Limit { \
          bytes: 255 }, idle: None, longest: 0, drain: 5, dial: 10, proxied: false, local: false, \
          verbose: false, logfmt: false, metrics: None, banner: None, to: Some(Address { host: \
-         \"unix:/s\", port: 0 }), line_end: Cr, ends_cut: false, sends_signals: false })",
+         \"unix:/s\", port: 0 }), line_end: Cr, ends_cut: false, sends_signals: false, to_telnet: false })",
     ),
     (
         "tn serve --port 2323 --host unix:/a --host localhost --per-host 0 --to h:65535",
@@ -70,7 +70,7 @@ const ASKED: &[(&str, &str)] = &[
          None }, sessions: 8, per_host: Some(0), count: Some(1), until: None, ticks: 0, line_limit: \
          Limit { bytes: 255 }, idle: None, longest: 0, drain: 5, dial: 10, proxied: false, local: \
          false, verbose: false, logfmt: false, metrics: None, banner: None, to: Some(Address { host: \
-         \"h\", port: 65535 }), line_end: Lf, ends_cut: false, sends_signals: false })",
+         \"h\", port: 65535 }), line_end: Lf, ends_cut: false, sends_signals: false, to_telnet: false })",
     ),
     (
         "tn serve --listen-fd 3 --forever",
@@ -78,7 +78,7 @@ const ASKED: &[(&str, &str)] = &[
          sessions: 8, per_host: None, count: None, until: None, ticks: 0, line_limit: Limit { bytes: \
          255 }, idle: None, longest: 0, drain: 5, dial: 10, proxied: false, local: false, verbose: \
          false, logfmt: false, metrics: None, banner: None, to: None, line_end: Lf, ends_cut: false, \
-         sends_signals: false })",
+         sends_signals: false, to_telnet: false })",
     ),
     (
         "tn serve --stdin",
@@ -86,7 +86,7 @@ const ASKED: &[(&str, &str)] = &[
          sessions: 8, per_host: None, count: Some(1), until: None, ticks: 0, line_limit: Limit { \
          bytes: 255 }, idle: None, longest: 0, drain: 5, dial: 10, proxied: false, local: false, \
          verbose: false, logfmt: false, metrics: None, banner: None, to: None, line_end: Lf, \
-         ends_cut: false, sends_signals: false })",
+         ends_cut: false, sends_signals: false, to_telnet: false })",
     ),
     (
         "tn connect -p7 --width 65535 --height 0 --escape ^a -q 86400 -w 7 --timeout 5 -6 --bind ::1 \
@@ -268,6 +268,8 @@ const REFUSED: &[&str] = &[
     "tn serve --port 7 --banner=",
     "tn serve --port 7 --to unix:",
     "tn serve --port 7 --signals act",
+    "tn serve --port 7 --to-telnet",
+    "tn serve --port 7 --to h:7 --to-telnet=yes",
     "tn serve --port 7 --to h:7 --signals ask",
     "tn connect h --plain --width 80",
     "tn connect h --plain --height 24",
@@ -310,7 +312,10 @@ fn words_ask_for_help(rt: HostRuntime) {
 /// Lines that are refused, with what is told of them.
 const TOLD: &[(&str, &str)] = &[
     ("tn local x", "unexpected argument 'x' found"),
-    ("tn connect --port x", "invalid value 'x' for '--port <PORT>'"),
+    (
+        "tn connect --port x",
+        "invalid value 'x' for '--port <PORT>'",
+    ),
     ("tn connect", "HOST, or --port <PORT>"),
     ("tn connect h:7 7", "more than one port is given"),
     ("tn connect h:x", "invalid value 'h:x' for '[HOST]'"),
@@ -353,6 +358,7 @@ const TOLD: &[(&str, &str)] = &[
     ),
     ("tn serve -p 7 --banner=", "'--banner <FILE>' needs a path"),
     ("tn serve -p 7 --signals act", "'--signals' needs '--to'"),
+    ("tn serve -p 7 --to-telnet", "'--to-telnet' needs '--to'"),
     (
         "tn serve -p 7 --to h:7 --signals ask",
         "invalid value 'ask' for '--signals <WHAT>'",

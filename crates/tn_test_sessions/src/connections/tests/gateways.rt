@@ -32,6 +32,7 @@ where
             limit: Limit::standard(),
             ends_cut: false,
             sends_signals: false,
+            speaks_telnet: false,
         },
         banner: None,
     };
