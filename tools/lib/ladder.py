@@ -29,7 +29,7 @@ class Picture:
     """An SVG picture, drawn from back to front."""
 
     def __init__(self, title, says=""):
-        self.title, self.says, self.parts, self.width, self.height = title, says, [], 0, 0
+        self.title, self.says, self.parts, self.width, self.height, self.style = title, says, [], 0, 0, STYLE
 
     def text(self, x, y, text, kind="", anchor="middle"):
         self.parts.append(f'<text x="{x:g}" y="{y:g}" class="{kind}" text-anchor="{anchor}">{html.escape(text)}</text>')
@@ -45,7 +45,7 @@ class Picture:
                 f'width="{self.width:g}" height="{self.height:g}" role="img">')
         page = f'<rect width="{self.width:g}" height="{self.height:g}" class="page"/>'
         names = f"<title>{html.escape(self.title)}</title><desc>{html.escape(self.says or self.title)}</desc>"
-        return "\n".join([head, names, f"<style>{STYLE}</style>", page, *self.parts, "</svg>", ""])
+        return "\n".join([head, names, f"<style>{self.style}</style>", page, *self.parts, "</svg>", ""])
 
 
 class Option:
@@ -89,36 +89,38 @@ LEFT, RIGHT, LINE = 170, 500, 16
 
 
 class Ladder:
-    """The rungs of a picture, from the top on, and from where to where an end edits."""
+    """The rungs of a picture, from the top on, between two ends, and from which rung to which an end edits."""
 
-    def __init__(self, picture):
-        self.picture, self.y, self.begin, self.bands, self.marks = picture, 56, {}, [], []
+    def __init__(self, picture, left=LEFT, right=RIGHT):
+        self.picture, self.left, self.right = picture, left, right
+        self.y, self.begin, self.bands, self.marks = 56, {}, [], []
 
     def text(self, *words):
         self.marks.append(lambda: self.picture.text(*words))
 
     def beside(self, kind, texts):
         """What a user or a job does."""
-        x, anchor = (LEFT - 12, "end") if kind == "user" else (RIGHT + 12, "start")
+        x, anchor = (self.left - 12, "end") if kind == "user" else (self.right + 12, "start")
         for at, text in enumerate(texts):
             self.text(x, self.y + at * LINE + 4, text, "", anchor)
         self.y += LINE * len(texts) + 6
 
-    def arrow(self, kind, texts, time=""):
-        """What arrives."""
+    def arrow(self, kind, texts, time="", gap=24):
+        """What arrives, and a gap below it."""
         self.y += 4
         for at, text in enumerate(texts):
-            self.text((LEFT + RIGHT) / 2, self.y + at * LINE, text, "code")
+            self.text((self.left + self.right) / 2, self.y + at * LINE, text, "code")
         self.y += LINE * len(texts) - 8
-        y, (source, target) = self.y, (RIGHT, LEFT) if kind == "to-client" else (LEFT, RIGHT)
+        ends = self.left, self.right
+        y, (source, target) = self.y, ends[::-1] if kind == "to-client" else ends
         way = 1 if target > source else -1
         if time:
-            self.text(LEFT - 12, y + 4, time, "small", "end")
+            self.text(self.left - 12, y + 4, time, "small", "end")
         self.marks.append(lambda: self.picture.path(f"M{source} {y:g}H{target}"))
         self.marks.append(lambda: self.picture.path(f"M{target} {y:g}l{-9 * way} -4v8z", "tip"))
         for text in texts:
             self.take_mode(source, target, text.removeprefix("IAC "))
-        self.y += 24
+        self.y += gap
 
     def take_mode(self, source, target, text):
         """An end edits, or takes bytes as edited, from the MODE on that reaches it. It ends with a MODE without EDIT and with LINEMODE; the
@@ -131,23 +133,26 @@ class Ladder:
                 self.end_band(target)
         elif text in ("WONT LINEMODE", "DONT LINEMODE"):
             self.end_band(target)
-            if source == LEFT:
+            if source == self.left:
                 self.end_band(source)
 
     def end_band(self, end):
         if end in self.begin:
             self.bands.append((end, self.begin.pop(end), self.y))
 
-    def draw_ends(self):
+    def draw_ends(self, top=24):
+        """Draws both ends, with their names at the top, and the marks of the rungs over them."""
         bands = self.bands + [(x, start, self.y) for x, start in self.begin.items()]
-        for x, text in ((LEFT, "client, and its user"), (RIGHT, "server, and its job")):
-            self.picture.text(x, 24, text)
-            self.picture.path(f"M{x} 34V{self.y:g}")
+        for x, text in ((self.left, "client, and its user"), (self.right, "server, and its job")):
+            self.picture.text(x, top, text)
+            self.picture.path(f"M{x} {top + 10:g}V{self.y:g}")
         for x, start, stop in bands:
             self.picture.path(f"M{x} {start:g}V{stop:g}", "edits")
-            words, anchor, at = (("the client edits",), "end", x - 12) if x == LEFT else (("bytes are taken", "as edited"), "start", x + 12)
+            words, anchor, at = (("the client edits",), "end", x - 12) if x == self.left else (("bytes are taken", "as edited"), "start", x + 12)
             for place, word in enumerate(words):
                 self.picture.text(at, start + 20 + place * 13, word, "small", anchor)
+        for mark in self.marks:
+            mark()
 
 
 def ladder_picture(title, events, has_states=True):
@@ -162,8 +167,6 @@ def ladder_picture(title, events, has_states=True):
         else:
             ladder.arrow(kind, texts, *time)
     ladder.draw_ends()
-    for mark in ladder.marks:
-        mark()
     y = ladder.y + 26
     for line in option_states(events) if has_states else ():
         picture.text((LEFT + RIGHT) / 2, y, line, "small")
