@@ -3,8 +3,9 @@
     python3 tools/lib/prose.py [-c]
 
 Prints what was counted, words of the pages and mannerisms of the pages and of the comments, and then each fault: a link that leads nowhere, a
-case that docs/PROVED.md names and no trial or test has, another version than the program's, an option that only its help has, or a count
-above its bound. With -c only what was counted is printed. Status 0: there is no fault. 1: there is one.
+case that docs/PROVED.md names and no trial or test has, another version than the program's, an option that only its help has, a line of
+CONTRIBUTING.md's worked change that its file does not have, or a count above its bound. With -c only what was counted is printed.
+Status 0: there is no fault. 1: there is one.
 """
 import glob
 import os
@@ -79,6 +80,16 @@ def sources():
                 yield path
 
 
+def lost_lines():
+    """The lines that a diff of CONTRIBUTING.md adds to a file, and that file does not have."""
+    page = f"{TOP}/CONTRIBUTING.md"
+    for diff in re.findall(r"^```diff\n(.*?)^```", read(page), re.M | re.S):
+        for path, lines in re.findall(r"^\+\+\+ (.*)\n((?:\+(?!\+\+ ).*\n)*)", diff, re.M):
+            lacks = set(re.findall(r"^\+(.*)$", lines, re.M)) - set(read(f"{TOP}/{path}").splitlines() if os.path.exists(f"{TOP}/{path}") else ())
+            for line in sorted(lacks):
+                yield page, f"{path} has no line {line.strip()}"
+
+
 def count_of(texts):
     return sum(len(MANNERISM.findall(text)) + bool(BEGINS_WITH_THE_SAME.match(text)) for text in texts)
 
@@ -141,7 +152,7 @@ def main():
     words = Words(__doc__)
     words.add_argument("-c", dest="only_counts", action="store_true")
     asked = words.parse_args()
-    found = [] if asked.only_counts else [*dead_links(), *missing_cases(), *other_versions(), *missing_options()]
+    found = [] if asked.only_counts else [*dead_links(), *missing_cases(), *other_versions(), *missing_options(), *lost_lines()]
     faults = [f"{os.path.relpath(page, TOP)}: {what}" for page, what in found]
     counts = ((sum(len(words_of(read(page))) for page in pages()), MOST_WORDS, "words in pages"),
               (count_of([*map(prose_of, map(read, pages())), manual_prose()]), MOST_IN_PAGES, "mannerisms in pages"),
