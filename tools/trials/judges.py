@@ -1,4 +1,5 @@
 """What tools of their own judge: the packages, each call for memory refused in turn, and the library for C."""
+import html
 import os
 import re
 import subprocess
@@ -49,6 +50,18 @@ def a_ladder_draws_editing_until_linemode_ends(world):
     foot = int(re.search(r'd="M170 34V(\d+)"', run.stdout)[1])
     expect_same(2, len(bands), "how many ends edit, or take bytes as edited")
     expect(all(stop < foot - 50 for _, stop in bands), f"the bands {bands} go on to the foot at {foot}")
+
+
+@case
+def a_drawn_session_rests_on_its_last_frame(world):
+    judged("pictures", "-n", "session", world.program)
+    with open(os.path.join(basics.TOP, "docs/pictures/session.svg"), encoding="utf-8") as file:
+        drawn = file.read()
+    marks = [(kind.split(), html.unescape(text)) for kind, text in re.findall(r'<text [^>]*class="([^"]*)"[^>]*>([^<]*)</text>', drawn)]
+    still = [text for kind, text in marks if "code" in kind and ("f" not in kind or "z" in kind)][4:]
+    expect_same(["hello", "hello", '> data "hello"', "> newline", '< data "hello"', "< newline"], still, "what is seen without motion")
+    expect('> data "h"' in [text for _, text in marks], "wanted a key that goes by itself")
+    expect("@media (prefers-reduced-motion: reduce) {\n.f { animation: none }" in drawn, "wanted no motion if none is wanted")
 
 
 @case(long=True, seconds=1_800)
