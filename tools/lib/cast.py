@@ -63,15 +63,22 @@ class Session:
         wait_for_port(self.port, self.server)
         self.client, self.terminal = pty.fork()
         if self.client == 0:
+            self.become_client(program, folder, columns)
+
+    def become_client(self, program, folder, columns):
+        """Runs the launcher in place of this process, which is the child at the pseudoterminal."""
+        launch = os.path.join(TOP, "tools", "launch")
+        words = [launch, program, "connect", "--port", str(self.port), "--trace", self.trace]
+        try:
             fcntl.ioctl(0, termios.TIOCSWINSZ, struct.pack("HHHH", 24, columns, 0, 0))
-            launch = os.path.join(TOP, "tools", "launch")
-            words = [launch, program, "connect", "--port", str(self.port), "--trace", self.trace]
             os.execve(launch, words, {**os.environ, "HOME": folder, "TERM": "xterm"})
+        finally:
+            os._exit(127)
 
     def traced(self):
-        """The items of the trace, without their times."""
+        """Returns the items of the trace, without their times. A line without its end is not there yet."""
         with contextlib.suppress(OSError), open(self.trace, encoding="utf-8") as file:
-            return [line.split(" ", 1)[1] for line in file.read().splitlines()]
+            return [line.split(" ", 1)[1] for line in file.read().rpartition("\n")[0].splitlines()]
         return []
 
     def wait(self, is_there, what):
