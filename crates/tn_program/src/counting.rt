@@ -22,7 +22,7 @@ pub trait Serves {
 impl<H: Host + Network> Serves for H {
     ghost use Rattle.std.specs.Prelude.{◌≡◌, None, IfSome, string_bytes};
     ghost use Rattle.tn_program.specs.Settings.{AnswersAsAsked, JoinsAsAsked, lines_as, options_as};
-    ghost use Rattle.tn_serve.specs.{Counted.{CountsSessions, facts_of, server_of}, Services.WasTurnedAway};
+    ghost use Rattle.tn_serve.specs.{Counted.{CountsSessions, facts_of, server_of}, Makers.WasTurnedAway};
 
     // sessions of its own job, which ticks as often as was asked for, or jobs that are joined to the service
     // that was asked for

@@ -2,7 +2,7 @@ pub mod Ends
 pub mod Faults
 pub mod Causes
 pub mod Places
-pub mod Services
+pub mod Makers
 pub mod Servers
 pub mod Turns
 pub mod Counted

@@ -1,7 +1,7 @@
 //! The service of a server: the jobs that it gives to its users.
 
 ghost use Rattle.std.specs.Prelude.{IfOk};
-ghost use Rattle.tn_serve.specs.{Services.StillMakes, Turns.asked};
+ghost use Rattle.tn_serve.specs.{Makers.StillMakes, Turns.asked};
 
 use crate::call::Call;
 use crate::finished::Finished;

@@ -5,7 +5,7 @@ ghost use Rattle.std.specs.Prelude.{[], ◌∷◌, IsErrOf, Ok, map, vec_items, 
 ghost use Rattle.tn_serve.specs.{Causes.{FailsBy, place_at}, Ends.{AreEnough, ServesUntil}};
 ghost use Rattle.tn_serve.specs.Counted.{CountsSessions, HasEnded, StillCounts, facts_of, server_of};
 ghost use Rattle.tn_serve.specs.Places.{AreHeld, AreHeldBeside, HasNoPlace, RunsAll, RunsOver, count_from};
-ghost use Rattle.tn_serve.specs.Services.{MakesOnly, StillMakes, TurnsAway, WasTurnedAway};
+ghost use Rattle.tn_serve.specs.Makers.{MakesOnly, StillMakes, TurnsAway, WasTurnedAway};
 ghost use Rattle.tn_serve.specs.Turns.{HearsAll, HearsOfJobs, HearsOfNone, StillHears, live_of};
 ghost use Rattle.tn_net.specs.network.Asked.{Accepts, GiveEach, Listens, at_place};
 ghost use Rattle.tn_session.specs.roster.Held.{IsLimit, held_count};

@@ -1,4 +1,4 @@
-use Rattle.tn_serve.specs.Services.{WasTurnedAway}
+use Rattle.tn_serve.specs.Makers.{WasTurnedAway}
 use Rattle.tn_serve.proofs.serving.serve_on.Given as goal
 
 -- its sessions have the options that were asked for and jobs that its service makes, and a connection without

@@ -1,5 +1,5 @@
 use Rattle.std.proofs.Common.{◌≡◌, vec_items}
-use Rattle.tn_serve.specs.{Counted.{HasEnded, StillCounts, facts_of, server_of}, Places.AreHeld, Services.StillMakes, Turns.{StillHears, live_of}}
+use Rattle.tn_serve.specs.{Counted.{HasEnded, StillCounts, facts_of, server_of}, Places.AreHeld, Makers.StillMakes, Turns.{StillHears, live_of}}
 use Rattle.tn_serve.proofs.serving.Open.serve_all.Given as goal
 
 abbrev pub invariant-loop : goal.invariant-loop
