@@ -18,7 +18,7 @@ from basics import TOP, Words
 # What the pages may have: words of all of them, and mannerisms. Lower a bound when the count has fallen.
 MOST_WORDS = 12_000
 MOST_IN_PAGES = 10
-MOST_IN_COMMENTS = 1_200
+MOST_IN_COMMENTS = 60
 
 # Words that hide who does what, or under which condition. A plain reader takes `where` for a place.
 MANNERISM = re.compile(r"\b(?:where|behind|beside|alone|likewise|whoever|told)\b", re.I)
