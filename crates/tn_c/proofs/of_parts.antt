@@ -1,5 +1,5 @@
 pub mod Refusing
-mod FindingRoom
-mod Changing
-mod Gathering
-mod Running
+pub mod FindingRoom
+pub mod Changing
+pub mod Gathering
+pub mod Running

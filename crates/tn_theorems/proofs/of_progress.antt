@@ -1,8 +1,8 @@
-mod Invariant
-mod Keeps
-mod Progress
-mod Measure
-mod ClientKeeps
-mod ClientProgress
-mod ClientMeasure
-mod ClientQueue
+pub mod Invariant
+pub mod Keeps
+pub mod Progress
+pub mod Measure
+pub mod ClientKeeps
+pub mod ClientProgress
+pub mod ClientMeasure
+pub mod ClientQueue

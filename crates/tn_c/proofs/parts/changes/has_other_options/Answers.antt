@@ -1,5 +1,5 @@
 use Rattle.std.proofs.Common.{refl}
-use Rattle.tn_c.proofs.parts.Changing.{differs}
+use Rattle.tn_c.proofs.of_parts.Changing.{differs}
 use Rattle.tn_c.proofs.parts.changes.has_other_options.Goals as goal
 
 pub returns : goal.returns

@@ -1,4 +1,4 @@
-use Rattle.tn_c.proofs.parts.FindingRoom.{some_fit}
+use Rattle.tn_c.proofs.of_parts.FindingRoom.{some_fit}
 use Rattle.tn_c.proofs.parts.laws.some_find_room.Goals as goal
 
 pub returns : goal.returns

@@ -1,5 +1,5 @@
 use Rattle.tn_theorems.proofs.progress.laws.a_client_never_gets_stuck.Goals as goal
-use Rattle.tn_theorems.proofs.progress.ClientProgress.{never_gets_stuck}
+use Rattle.tn_theorems.proofs.of_progress.ClientProgress.{never_gets_stuck}
 
 pub returns : goal.returns
 returns c = never_gets_stuck

@@ -1,6 +1,6 @@
 use Rattle.std.proofs.Common.{sym, subst}
 use Rattle.tn_c.specs.{parts.{DecoderCalls.FeedCall, Faults.nvt_answer, Items.ReadStream}, declared.parts.codes.Code.Code}
-use Rattle.tn_c.proofs.parts.Gathering.{fed_by}
+use Rattle.tn_c.proofs.of_parts.Gathering.{fed_by}
 use Rattle.tn_c.proofs.parts.decoder.HeldDecoder.feed.Goals as goal
 
 pub returns : goal.returns

@@ -1,7 +1,7 @@
 use Rattle.std.proofs.{Common.{◌≡◌, ◌+◌, List, ◌∷◌, drop, sym, ap, subst, ◌∙◌, rules, arith}, lemmas.{Grind.common_steps, List.Elements.All-tail}}
 use Rattle.std.specs.Prelude.{All}
 use Rattle.tn_c.specs.{parts.Waiting.{IsFilled, run_bytes}, declared.parts.waiting.Part.{Part, TheVariants.{Run, One}}}
-use Rattle.tn_c.proofs.parts.Running.{begins, first_of, has_bytes, rest_whole}
+use Rattle.tn_c.proofs.of_parts.Running.{begins, first_of, has_bytes, rest_whole}
 use Rattle.tn_c.proofs.parts.waiting.Waiting.next.Goals as goal
 
 pub returns-then-self-gt0-clause-item : goal.returns-then-self-gt0-clause-item

@@ -2,7 +2,7 @@ use Rattle.std.proofs.Common.{◌≡◌, ◌++◌, ℕ, List, length, map, drop,
 use Rattle.std.proofs.lemmas.{Grind.common_steps, List.{length-drop, length-take}}
 use Rattle.tn_nvt.specs.declared.items.Item.{Item, TheVariants.Byte}
 use Rattle.tn_c.specs.parts.Waiting.{items_in, StartsWithData}
-use Rattle.tn_c.proofs.parts.Running.{begins, has_bytes, moved, no_data, rest_whole}
+use Rattle.tn_c.proofs.of_parts.Running.{begins, has_bytes, moved, no_data, rest_whole}
 use Rattle.tn_c.proofs.parts.waiting.Waiting.take_run.Goals as goal
 
 pub returns-then-self-gt0-clause-run : goal.returns-then-self-gt0-clause-run

@@ -1,7 +1,7 @@
 use Rattle.std.proofs.Common.{[], ◌∷◌, OnOk, OnErr, List, sym, subst, arith}
 use Rattle.tn_nvt.specs.declared.items.Item.{Item, TheVariants.Byte}
 use Rattle.tn_c.specs.parts.Waiting.{AddsItems, AddsNone, items_in}
-use Rattle.tn_c.proofs.parts.Running.{adds_none, adds_one, adds_run, is_other, one_whole, stays_whole}
+use Rattle.tn_c.proofs.of_parts.Running.{adds_none, adds_one, adds_run, is_other, one_whole, stays_whole}
 use Rattle.tn_c.proofs.parts.waiting.WaitingSink.item.Goals as goal
 
 pub invariant_of-self : goal.invariant_of-self

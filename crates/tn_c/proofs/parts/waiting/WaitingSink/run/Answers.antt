@@ -1,7 +1,7 @@
 use Rattle.std.proofs.Common.{OnOk, List, map, subst}
 use Rattle.tn_nvt.specs.declared.items.Item.{Item, TheVariants.Byte}
 use Rattle.tn_c.specs.parts.Waiting.{AddsItems, items_in}
-use Rattle.tn_c.proofs.parts.Running.{adds_run, stays_whole}
+use Rattle.tn_c.proofs.of_parts.Running.{adds_run, stays_whole}
 use Rattle.tn_c.proofs.parts.waiting.WaitingSink.run.Goals as goal
 
 pub invariant_of-self : goal.invariant_of-self

@@ -1,7 +1,7 @@
 -- A server's session goes on by itself, or waits for the network, for its foreground job or for a write.
 use Rattle.std.proofs.Common.{arith, ◌≡◌, ◌≢◌, ℕ, zero, suc, ◌+◌, ◌<◌, ◌≤◌, Bool, true, false, ◌⊎◌, inl, inr, refl, subst}
-use Rattle.tn_theorems.proofs.progress.Invariant.{Holds, may_have_said, net_left_in, desk_left_in, back_left_in, is_waiting, has_step_credit, has_ended}
-use Rattle.tn_theorems.proofs.progress.{Invariant.{has_failed, done_by, refused_by, desk_by, has_answer, is_leaving}, Keeps.holds}
+use Rattle.tn_theorems.proofs.of_progress.Invariant.{Holds, may_have_said, net_left_in, desk_left_in, back_left_in, is_waiting, has_step_credit, has_ended}
+use Rattle.tn_theorems.proofs.of_progress.{Invariant.{has_failed, done_by, refused_by, desk_by, has_answer, is_leaving}, Keeps.holds}
 use Rattle.tn_theorems.specs.progress.Server.{End, Net, reading, holding, handing, net_says, net_tells, net_leaves, net_gone, Cause, Desk, asking, waiting, answering}
 use Rattle.tn_theorems.specs.progress.Server.{desk_says, desk_tells, desk_leaves, desk_gone, Back, back_waits, stepping, back_says, back_tells, back_leaves, back_gone}
 use Rattle.tn_theorems.specs.progress.Server.{Term, receiving, writing, joining, ended, Kind, piece, words, ending, take, said, step, done, refusal, left, Box, State}

@@ -3,7 +3,7 @@ use Rattle.std.proofs.Common.{arith, ◌≡◌, ℕ, ◌+◌, ◌≤◌, Bool, t
 use Rattle.tn_theorems.specs.progress.{Server.one, Client.{putting, closing, sent_all, piece, State, Sizes, HasPlace, unsent}}
 use Rattle.tn_theorems.specs.progress.ClientSteps.{let_go, NeverWaitsToSend, Own, may_read, handles, Outer, brings, MayWrite, MayGo, gone_on, MayBeLet, let_on}
 use Rattle.tn_theorems.specs.progress.ClientSteps.{Reached, at_start, goes_on}
-use Rattle.tn_theorems.proofs.progress.ClientKeeps.{Holds, holds, in_hand, is_putting, still_closing}
+use Rattle.tn_theorems.proofs.of_progress.ClientKeeps.{Holds, holds, in_hand, is_putting, still_closing}
 
 -- the writes that are not sent, and those that keys may still become
 abbrev ahead : State → ℕ

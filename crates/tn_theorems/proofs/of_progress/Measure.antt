@@ -1,6 +1,6 @@
 -- Each step that a thread makes by itself is one towards a state in which no thread goes on by itself.
 use Rattle.std.proofs.Common.{arith, ℕ, ◌+◌, ◌*◌, ◌<◌, ◌≤◌, ap}
-use Rattle.tn_theorems.proofs.progress.{Invariant.{is_waiting, last_of}, Keeps.holds}
+use Rattle.tn_theorems.proofs.of_progress.{Invariant.{is_waiting, last_of}, Keeps.holds}
 use Rattle.tn_theorems.specs.progress.Server.{one, Net, holding, handing, net_says, net_tells, net_leaves, Desk, asking, waiting, desk_says, desk_tells, desk_leaves}
 use Rattle.tn_theorems.specs.progress.Server.{Back, back_waits, stepping, back_says, back_tells, back_leaves, back_gone, Term, receiving, writing, joining, ended, State}
 use Rattle.tn_theorems.specs.progress.Server.{Sizes, waiting_mails}

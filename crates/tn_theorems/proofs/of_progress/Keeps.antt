@@ -1,6 +1,6 @@
 -- Each step of a server's session keeps what holds.
 use Rattle.std.proofs.Common.{arith, ◌≡◌, ℕ, zero, suc, ◌+◌, ◌<◌, ◌≤◌, Bool, true, false, ◌||◌, refl, sym, subst}
-use Rattle.tn_theorems.proofs.progress.Invariant.{Holds, many, is_handing}
+use Rattle.tn_theorems.proofs.of_progress.Invariant.{Holds, many, is_handing}
 use Rattle.tn_theorems.specs.progress.Server.{one, Term, receiving, writing, Kind, piece, take, State, Sizes, start, count_of}
 use Rattle.tn_theorems.specs.progress.ServerSteps.{Choice, gives, refused_first, refused_last, Own, handles, writes_nothing, Outer, writes, MayGo, gone_on, MayBeLet}
 use Rattle.tn_theorems.specs.progress.ServerSteps.{let_on, waits_behind, handled, written, is_few, broken, paid, Reached, at_start, goes_on, let_go}

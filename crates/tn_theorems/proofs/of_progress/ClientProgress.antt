@@ -8,7 +8,7 @@ use Rattle.tn_theorems.specs.progress.ClientSteps.{for_network, for_user, for_sc
 use Rattle.tn_theorems.specs.progress.ClientSteps.{may_read, sees_end, hands_keys, goes_on_reading, is_stopped, tells_keys_end, leaves_keys, handles, puts}
 use Rattle.tn_theorems.specs.progress.ClientSteps.{puts_in_vain, puts_end, puts_end_in_vain, closes, joins, finishes, takes_write, takes_end, drops_write}
 use Rattle.tn_theorems.specs.progress.ClientSteps.{drops_end, Outer, brings, types, shows, is_sent, MayGo, gone_on, MayBeLet, let_on, Goes, IsLet, WaitsFor}
-use Rattle.tn_theorems.proofs.progress.ClientKeeps.{Holds, holds, net_gone_in, keys_gone_in, all_sent}
+use Rattle.tn_theorems.proofs.of_progress.ClientKeeps.{Holds, holds, net_gone_in, keys_gone_in, all_sent}
 
 abbrev DoesNotGetStuck : Sizes → State → Type 0
 DoesNotGetStuck sizes s = ((t : State) × Goes sizes s t) ⊎ (WaitsFor s × ((t : State) × IsLet s t))

@@ -4,7 +4,7 @@ use Rattle.std.proofs.Common.{arith, ℕ, ◌+◌, ◌*◌, ◌<◌, ◌≤◌, 
 use Rattle.tn_theorems.specs.progress.Client.{Net, net_hands, net_tells, net_leaves, Keys, held, typing, keys_hands, looking, keys_tells, keys_leaves}
 use Rattle.tn_theorems.specs.progress.Client.{keys_gone, Core, receiving, putting, closing, joining, Sending, sent_all, State, Sizes, waiting_mails}
 use Rattle.tn_theorems.specs.progress.ClientSteps.{Own, MayGo, gone_on, Reached, ComesToRest, Alone, no_step, one_more}
-use Rattle.tn_theorems.proofs.progress.ClientKeeps.{holds}
+use Rattle.tn_theorems.proofs.of_progress.ClientKeeps.{holds}
 
 abbrev pub net_size : Net → ℕ
 net_size net_hands = 5
