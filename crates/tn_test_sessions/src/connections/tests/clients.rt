@@ -2,9 +2,8 @@
 //! more.
 
 use std::alloc::{AllocError, Global};
-use std::fs::{File, Files};
 use std::io::{self, Cursor, ErrorKind, Read, Write};
-use std::net::{Ipv4Addr, Net, TcpListener, TcpStream};
+use std::net::{Ipv4Addr, TcpListener};
 use std::sync::Arc;
 use std::test::Fail;
 use std::thread;
@@ -14,6 +13,7 @@ use tn_connect::{
     Screen, connect,
 };
 use tn_discipline::Limit;
+use tn_program::Network;
 
 /// A screen that takes nothing.
 #[derive(Drop)]
@@ -45,7 +45,7 @@ pub(super) fn connect_here<H, K, S>(
     screen: &mut S,
 ) -> Result<(Option<ConnectFault>, Vec<u8>), AllocError>
 where
-    H: Files<File = File> + Host + Net<Listener = TcpListener, Stream = TcpStream>,
+    H: Network + Host,
     K: Read + Drop + Send + 'static,
     S: Write,
 {
@@ -89,7 +89,7 @@ fn fault_of<H>(
     port: u16,
 ) -> Result<(Option<ConnectFault>, Vec<u8>), AllocError>
 where
-    H: Files<File = File> + Host + Net<Listener = TcpListener, Stream = TcpStream>,
+    H: Network + Host,
 {
     let link = link(alloc)?;
     let mut screen = Screen {

@@ -3,7 +3,6 @@
 
 use super::clients::{connect_here, link};
 use std::alloc::{AllocError, Global};
-use std::fs::{File, Files};
 use std::io::{self, Cursor, Read, Write};
 use std::net::{Ipv4Addr, Net, Shutdown, TcpListener, TcpStream};
 use std::process::Abort;
@@ -16,6 +15,7 @@ use tn_cli::run_local;
 use tn_connect::Host;
 use tn_discipline::{Entry, Limit, Settings, Sig, Text};
 use tn_jobs::{After, Job, Reaction};
+use tn_program::Network;
 use tn_server::Editing;
 use tn_session::{Ended, Finish, Maker, Unwatched, serve_session};
 use tn_test_core::models::random::Random;
@@ -213,7 +213,7 @@ fn typed_there<H>(
     editing: Editing,
 ) -> Result<Option<String>, Fail>
 where
-    H: Files<File = File> + Host + Clock + Net<Listener = TcpListener, Stream = TcpStream>,
+    H: Network + Host + Clock + Net<Listener = TcpListener, Stream = TcpStream>,
 {
     let listener = TcpListener::bind(&rt, (Ipv4Addr::LOCALHOST, 0))?;
     let port = listener.local_addr()?.port();
@@ -244,7 +244,7 @@ fn typed_here(alloc: Global, mut keys: &[u8]) -> Result<Vec<u8>, Fail> {
 
 fn is_same<H>(rt: H, alloc: Global, seed: u32) -> Result<bool, Fail>
 where
-    H: Files<File = File> + Host + Clock + Net<Listener = TcpListener, Stream = TcpStream>,
+    H: Network + Host + Clock + Net<Listener = TcpListener, Stream = TcpStream>,
 {
     let mut random = Random::new(seed);
     let keys = keys_of(alloc, &mut random)?;
