@@ -17,7 +17,7 @@ pub(crate) const MIX: &[u8; 32] =
     b"ab\xff\xffcd\r\0ef\xff\xfb\x01gh\xff\xf1ij\xff\xfa\x1f\0\x50\0\x18\xff\xf0kl\r\n";
 
 /// Counts the items that it gets, and wraps, since a sum that does not costs four instructions a
-/// call in place of one. A subnegotiation's parameters stay where they are, as libtelnet's do.
+/// call in place of one. A subnegotiation's parameters are not copied, as libtelnet does not copy them.
 #[derive(Drop)]
 struct Counter {
     wholes: u64,

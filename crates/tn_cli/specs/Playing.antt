@@ -148,7 +148,7 @@ EndsWith lines (Some (fault.Script number)) text = StopsAtBadLine lines number t
 EndsWith lines (Some (fault.World number)) text = StopsAtRefusedLine lines number text
 EndsWith lines (Some f) text = ⊥
 
--- the output of a script, whole or up to where it stops
+-- the output of a script, whole, or the part before the line at which it stops
 abbrev pub PrintsSome : List (List ℕ) → List ℕ → Type 0
 PrintsSome lines text = (end : Option CliFault) × EndsWith lines end text
 
@@ -168,6 +168,6 @@ AppendsPrefixOfText is old new = (text : List ℕ) × is text × AppendsPrefix o
 abbrev pub PlaysScript : List ℕ → Option (List ℕ) → Option (List ℕ) → Type 0
 PlaysScript script = AppendsText (PrintsWhole (lines_of script))
 
--- a prefix was appended of the output of a script, whole or up to where it stops
+-- a prefix of that output was appended: of the whole, or of the part before the line at which the script stops
 abbrev pub PlaysScriptPrefix : List ℕ → Option (List ℕ) → Option (List ℕ) → Type 0
 PlaysScriptPrefix script = AppendsPrefixOfText (PrintsSome (lines_of script))

@@ -4,7 +4,7 @@ use httpdate::HttpDate;
 use std::alloc::{AllocError, Global};
 use std::time::{Clock, Duration, SystemTime};
 
-/// The time and a space: in UTC, to the millisecond, as `2026-11-26T20:11:07.123Z`. It is empty where the
+/// The time and a space: in UTC, to the millisecond, as `2026-11-26T20:11:07.123Z`. It is empty if the
 /// machine has no clock.
 pub fn stamp<C: Clock>(clock: &C, alloc: Global) -> Result<Vec<u8>, AllocError> {
     let Ok(now) = SystemTime::now(clock) else {

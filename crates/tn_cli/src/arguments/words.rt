@@ -28,7 +28,7 @@ pub enum Asked {
 /// Why a command line asks for no run.
 #[derive(Debug, Drop, ErrorText)]
 pub enum WordsFault {
-    /// It is not accepted. The text says why, and where help is.
+    /// It is not accepted. The text gives the reason, and names the option that prints help.
     #[error("usage")]
     Usage(String),
     #[error("memory")]
@@ -42,7 +42,7 @@ pub enum WordsFault {
 }
 
 impl WordsFault {
-    /// Returns what is wrong with a command line that is not accepted, and where help is, in whole lines.
+    /// Returns why a command line is not accepted, and the option that prints help, in whole lines.
     pub fn detail(&self) -> Option<&str> {
         match self {
             WordsFault::Usage(detail) => Some(detail.as_str()),

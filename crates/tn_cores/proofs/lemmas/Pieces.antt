@@ -20,7 +20,7 @@ read_on stream piece front back had done left known small whole before =
     let Q : List Item → Type 0 = λ ys. Reading (stream ++ piece) ys all.1 in
     (more, (all.1, subst Q is_all all.2))
 
--- a decoder that stays where it is has read nothing more
+-- a decoder whose state has not changed has read nothing more
 pub read_as : (old new : DecoderState) (stream : List ℕ) (had now : List Item) → new ≡ old → now ≡ had → nvt.LeadsTo stream had old → nvt.LeadsTo stream now new
 read_as old new stream had now e f r =
     let P : DecoderState → Type 0 = λ d. nvt.LeadsTo stream now d in

@@ -33,7 +33,7 @@ turn_idle old told bytes text none blank off = record {
     nothing_more : (xs ys : List ℕ) → ys ≡ [] → xs ≡ xs ++ (ys ++ [])
     nothing_more xs ys e = sym (append-nil xs) ∙ ap (λ (zs : List ℕ). xs ++ zs) (sym (append-nil ys ∙ e))
 
--- the bytes that go to the network are those of the history, up to where that was closed
+-- the bytes that go to the network are those of the history before it was closed
 sends_as : (b all : Bool) (c next : Run) (bytes part rest : List ℕ) → next.sent ≡ sent_after b c.sent next.history → (b ≡ false → c.sent ≡ c.history)
     → bytes ≡ sent_bytes b part → spells (items_said next.history) ≡ spells (items_said c.history) ++ (part ++ rest) → (all ≡ true → rest ≡ [])
     → SendsPrefix c next bytes all

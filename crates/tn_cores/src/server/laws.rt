@@ -44,9 +44,9 @@ pub fn all_goes_before_a_hang_up()
     one_job_changes();
 }
 
-/// A run ends by a fault only where the fault's cause was there: a message that reading failed, or that
+/// A run ends by a fault only if the fault's cause was there: a message that reading failed, or that
 /// memory ran out; a write that failed; or a call of the end that was refused for its cause, too far
-/// behind only where as many entries waited as there may be.
+/// behind only if as many entries waited as there may be.
 pub fn faults_have_causes()
     ensures { (opens : Bool) (canon : Canon) (editing : Editing) (jobs : Jobs)
         (marked : List (Message × ServerMark)) (new : Run) (fault : SessionFault) →
