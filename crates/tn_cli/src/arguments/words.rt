@@ -61,8 +61,8 @@ impl From<AllocError> for WordsFault {
     }
 }
 
-/// Reads a command line, of which the program's name is the first word. Each number in the result lies in its
-/// range.
+/// Reads a command line, of which the program's name is the first word. Each number in the result, except a
+/// descriptor, lies in its range.
 ///
 /// # Errors
 /// - `Usage`: `clap` does not take the words, or their values contradict one another.
