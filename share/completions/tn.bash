@@ -1,5 +1,5 @@
 # shellcheck shell=bash
-# Completions of tn for bash: written by tools/completions -w from the program's help.
+# Completions of tn for bash: written by tools/release/completions -w from the program's help.
 _tn_hosts() {
     local folder=${XDG_CONFIG_HOME-}
     if [[ $folder != /* ]]; then folder=${HOME-}/.config; fi

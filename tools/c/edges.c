@@ -1,4 +1,4 @@
-/* What libtn has in C: an export of Rattle takes no null pointer, and returns no pointer. Nothing of this is proved. tools/build-c compiles
+/* What libtn has in C: an export of Rattle takes no null pointer, and returns no pointer. Nothing of this is proved. tools/c/build compiles
  * it, and gives what Rattle exports as tn_.._free the names below.
  */
 #include "tn.h"

@@ -1,4 +1,4 @@
-/* Trials of tn.h, for tools/check-c.
+/* Trials of tn.h, for tools/c/check.
  *
  *   trials worked     openings, answers and entries that were worked out by hand
  *   trials refused    the same session again and again, with each allocation refused in turn

@@ -1,7 +1,7 @@
 /* wrong_uses: each call of tn.h on a handle that it is not for, of an end that has failed, and with no bytes, at a null pointer too.
  * Only with TN_UNTYPED do such uses compile, as any did with version 1.0.
  *
- * It is run by tools/check-c, which sees that each call of the header stands in CALLS or in STARTS.
+ * It is run by tools/c/check, which sees that each call of the header stands in CALLS or in STARTS.
  */
 #define TN_UNTYPED
 #include "trial.h"

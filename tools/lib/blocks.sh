@@ -1,5 +1,5 @@
 # shellcheck shell=bash
-# The commands that pages print with their output, as tools/check-docs and tools/try-package run them. Who sources it sets `here`: the folder
+# The commands that pages print with their output, as tools/gate/check-docs and tools/release/try-package run them. Who sources it sets `here`: the folder
 # in which they run, where `tn` is the program.
 
 # The blocks of a page, each in a file of its own: its first line says where it stands.

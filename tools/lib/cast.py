@@ -67,7 +67,7 @@ class Session:
 
     def become_client(self, program, folder, columns):
         """Runs the launcher in place of this process, which is the child at the pseudoterminal."""
-        launch = os.path.join(TOP, "tools", "launch")
+        launch = os.path.join(TOP, "libexec", "launch")
         words = [launch, program, "connect", "--port", str(self.port), "--trace", self.trace]
         try:
             fcntl.ioctl(0, termios.TIOCSWINSZ, struct.pack("HHHH", 24, columns, 0, 0))

@@ -1,5 +1,5 @@
 # shellcheck shell=bash
-# What `./tn install`, tools/package, tools/build-c and tools/check-c share.
+# What `./tn install`, tools/release/package, tools/c/build and tools/c/check share.
 
 # Puts a program, its launcher, the ladder of a trace, the manual page, completions and units of systemd, which name PREFIX, into a folder.
 # They run without this repository: bin/tn starts the launcher, with the program that lies next to it, and bin/tn-ladder is a link.
@@ -9,8 +9,8 @@ install_program() {
     local program=$1 prefix=$2 into=$3 top unit text
     top=$(dirname "$(dirname "$(dirname "$(readlink -f "${BASH_SOURCE[0]}")")")")
     install -D -m 755 "$program" "$into/libexec/tn/tn"
-    install -D -m 755 "$top/tools/launch" "$into/libexec/tn/launch"
-    install -D -m 755 "$top/tools/ladder" "$into/libexec/tn/ladder"
+    install -D -m 755 "$top/libexec/launch" "$into/libexec/tn/launch"
+    install -D -m 755 "$top/libexec/ladder" "$into/libexec/tn/ladder"
     install -D -m 644 -t "$into/libexec/tn/lib" "$top/tools/lib/basics.py" "$top/tools/lib/ladder.py"
     install -D -m 644 "$top/docs/tn.1" "$into/share/man/man1/tn.1"
     install -D -m 644 "$top/share/completions/tn.bash" "$into/share/bash-completion/completions/tn"
@@ -32,7 +32,7 @@ defined_in() {
     sed -n "s/^#define $2 \"\(.*\)\"\$/\1/p" "$1"
 }
 
-# Installs the library for C, from a folder of tools/build-c: into PREFIX, its libraries into LIBDIR, and all of it below DESTDIR.
+# Installs the library for C, from a folder of tools/c/build: into PREFIX, its libraries into LIBDIR, and all of it below DESTDIR.
 install_library() {
     local folder=$1 prefix=$2 libdir=$3 root=${DESTDIR-} top shared soname
     top=$(dirname "$(dirname "$(dirname "$(readlink -f "${BASH_SOURCE[0]}")")")")

@@ -1,4 +1,4 @@
-"""Looks at the words of the pages and of the comments, as tools/check-docs does.
+"""Looks at the words of the pages and of the comments, as tools/gate/check-docs does.
 
     python3 tools/lib/prose.py [-c]
 
@@ -41,7 +41,7 @@ def pages():
 
 
 def words_of(text):
-    """The words of a page, code and all, without the list that tools/rests-on writes. A bar of a table is no word."""
+    """The words of a page, code and all, without the list that tools/gate/rests-on writes. A bar of a table is no word."""
     return [word for word in WRITTEN.sub("", text).split() if re.search(r"\w", word)]
 
 

@@ -1,6 +1,6 @@
 // libtn.a beside libtelnet 0.21 (Debian: libtelnet-dev), in one program and over the same bytes.
 //
-//   tools/build-c && cc -O2 -Iinclude -o c_library tools/speed/c_library.c out/libtn.a -ltelnet && ./c_library
+//   tools/c/build && cc -O2 -Iinclude -o c_library tools/speed/c_library.c out/libtn.a -ltelnet && ./c_library
 #define MEASURE_BY CLOCK_THREAD_CPUTIME_ID
 #include "measure.h"
 #define TN_UNTYPED // a function is for either end

@@ -22,14 +22,14 @@ def judged(tool, *words, tries=1):
 
 @case(long=True, seconds=1_800)
 def the_packages_are_as_the_pages_say(world):
-    # The prover's own record of what it proved is another than that of tools/prove, so tools/try-package gets --unproved.
+    # The prover's own record of what it proved is another than that of tools/prove, so tools/release/try-package gets --unproved.
     # A session in it may take too long on a machine that is busy just then, so it has a second try.
-    judged("try-package", "--unproved", "-p", world.program, tries=2)
+    judged("release/try-package", "--unproved", "-p", world.program, tries=2)
 
 
 @case(seconds=300)
 def each_call_for_memory_may_be_refused(world):
-    judged("refuse-each", world.program)
+    judged("gate/refuse-each", world.program)
 
 
 LADDER = """0.000 < IAC DO LINEMODE
@@ -45,7 +45,7 @@ LADDER = """0.000 < IAC DO LINEMODE
 
 @case
 def a_ladder_draws_editing_until_linemode_ends(world):
-    run = subprocess.run([os.path.join(basics.TOP, "tools/ladder")], input=LADDER, capture_output=True, text=True, check=True)
+    run = subprocess.run([os.path.join(basics.TOP, "libexec/ladder")], input=LADDER, capture_output=True, text=True, check=True)
     bands = [(int(x), int(stop)) for x, stop in re.findall(r'd="M(\d+) \d+V(\d+)" class="edits"', run.stdout)]
     foot = int(re.search(r'd="M170 34V(\d+)"', run.stdout)[1])
     expect_same(2, len(bands), "how many ends edit, or take bytes as edited")
@@ -54,7 +54,7 @@ def a_ladder_draws_editing_until_linemode_ends(world):
 
 @case
 def a_drawn_session_rests_on_its_last_frame(world):
-    judged("pictures", "-n", "session", world.program)
+    judged("release/pictures", "-n", "session", world.program)
     with open(os.path.join(basics.TOP, "docs/pictures/session.svg"), encoding="utf-8") as file:
         drawn = file.read()
     marks = [(kind.split(), html.unescape(text)) for kind, text in re.findall(r'<text [^>]*class="([^"]*)"[^>]*>([^<]*)</text>', drawn)]
@@ -67,5 +67,5 @@ def a_drawn_session_rests_on_its_last_frame(world):
 @case(long=True, seconds=1_800)
 def the_library_for_c_works(world):
     if not os.path.exists(os.path.join(basics.TOP, "out", "libtn.a")):
-        raise NotTried("there is no library in out/: tools/build-c builds it")
-    judged("check-c", world.program)
+        raise NotTried("there is no library in out/: tools/c/build builds it")
+    judged("c/check", world.program)

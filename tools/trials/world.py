@@ -224,7 +224,7 @@ class World:
 
     def __init__(self, program, folder):
         self.program = program
-        self.launcher = os.path.join(basics.TOP, "tools/launch")
+        self.launcher = os.path.join(basics.TOP, "libexec/launch")
         self.folder = folder
         self.kept = []
 
