@@ -332,7 +332,7 @@ static void worked_memory(void)
     tn_line line = TN_HANDLE;
     tn_decoder decoder = TN_HANDLE;
     asked = 0;
-    SURE(tn_server_start(&server, &standard, 255) == TN_OK && asked <= 42142);
+    SURE(tn_server_start(&server, &standard, 255) == TN_OK && asked <= 9886);
     asked = 0;
     SURE(tn_client_start(&client, 80, 24, 255) == TN_OK && asked <= 655);
     asked = 0;
@@ -343,6 +343,53 @@ static void worked_memory(void)
     tn_client_free(&client);
     tn_line_free(&line);
     tn_decoder_free(&decoder);
+}
+
+static void interrupt(tn_server *server, size_t count)
+{
+    memset(buf, 3, count); /* ^C, which makes an entry without a text */
+    SURE(tn_server_feed(server, buf, count) == TN_OK);
+}
+
+static void take_interrupts(tn_server *server, size_t count)
+{
+    tn_kind kind = TN_NONE;
+    for (size_t i = 0; i < count; i++)
+        SURE(tn_server_take(server, &kind) == TN_OK && kind == TN_INT);
+}
+
+/* The slots for entries grow with those that wait, and are given back with the last one, unless there is no memory for a few slots. Without
+ * memory for a slot a key makes no entry. */
+static void worked_slots(void)
+{
+    tn_server server = TN_HANDLE;
+    tn_kind kind = TN_NONE;
+    bool failed = false;
+    size_t few = 0;
+    SURE(tn_server_start(&server, &standard, 255) == TN_OK);
+    few = held;
+    interrupt(&server, 1000);
+    SURE(held > few + 1000 * sizeof(void *));
+    take_interrupts(&server, 1000);
+    SURE(held <= few);
+    interrupt(&server, 1000);
+    take_interrupts(&server, 999);
+    refused_call = calls + 1;
+    take_interrupts(&server, 1);
+    SURE(calls == refused_call && held > few);
+    refused_call = 0;
+    interrupt(&server, 1);
+    take_interrupts(&server, 1);
+    SURE(held <= few);
+    interrupt(&server, 16);
+    refused_call = calls + 1;
+    buf[0] = 3;
+    SURE(tn_server_feed(&server, buf, 1) == TN_MEMORY && calls == refused_call);
+    refused_call = 0;
+    SURE(tn_server_failed(&server, &failed) == TN_OK && failed);
+    take_interrupts(&server, 16);
+    SURE(tn_server_take(&server, &kind) == TN_OK && kind == TN_NONE);
+    tn_server_free(&server);
 }
 
 static void *typed_elsewhere(void *client)
@@ -603,6 +650,7 @@ int main(int argc, char **argv)
         worked_client();
         worked_pair();
         worked_memory();
+        worked_slots();
         worked_threads();
     } else if (strcmp(word, "refused") == 0) {
         refuse_each();

@@ -1,6 +1,6 @@
 -- Why a terminal refuses a key or a command.
 use Rattle.std.specs.Prelude.{◌≡◌, ◌<◌, ℕ, IsTrue, IsFalse, List, [], ◌∷◌, ◌++◌, length}
-use Rattle.tn_discipline.specs.{HalfLine.GivesText, Keys.gives_entry, declared.keys.Role.Role}
+use Rattle.tn_discipline.specs.{Keys.gives_entry, declared.keys.Role.Role}
 use Rattle.tn_pty.specs.{Terminal.{Terminal, max_waiting, shut_terminal}, declared.pty.Input.Input}
 use Rattle.tn_pty.specs.{Typing.{role_of_input, after_byte, after_all}, declared.pty.PtyFault.PtyFault}
 use Rattle.tn_pty.specs.declared.pty.PtyFault.TheVariants.{Closed, TooFarAhead, Memory}
@@ -11,13 +11,13 @@ pub record Accepts (old : Terminal) (r : Role) : Type 0 where
   pub room : IsTrue (gives_entry r) → length old.entries < max_waiting
 
 -- A key of this role is refused, and has no effect but that the terminal is shut: it was shut already, or
--- 1,024 entries wait, or no memory was found for a text.
+-- 1,024 entries wait, or no memory was found for the entry that the key makes.
 abbrev pub Refuses : Terminal → Role → PtyFault → Terminal → Type 0
 Refuses old r Closed new = IsTrue old.closed × (new ≡ old)
 Refuses old r TooFarAhead new =
     IsFalse old.closed × IsTrue (gives_entry r) × (length old.entries ≡ max_waiting)
     × (new ≡ shut_terminal old)
-Refuses old r Memory new = Accepts old r × GivesText old.line r × (new ≡ shut_terminal old)
+Refuses old r Memory new = Accepts old r × IsTrue (gives_entry r) × (new ≡ shut_terminal old)
 
 -- each of these bytes is accepted at the terminal that those before it leave
 abbrev pub AcceptsAll : Input → Terminal → List ℕ → Type 0

@@ -2,3 +2,4 @@ pub mod Terminal
 pub mod Runs
 pub mod Typing
 pub mod Faults
+pub mod Waiting

@@ -86,12 +86,3 @@ command_role command.Ga = role.Ignored
 abbrev pub command_shows : Command → List Symbol
 command_shows command.Ayt = Byte 91 ∷ Byte 89 ∷ Byte 101 ∷ Byte 115 ∷ Byte 93 ∷ Newline ∷ []
 command_shows _ = []
-
--- the roles that commands stand for
-abbrev pub IsCommandRole : Role → Type 0
-IsCommandRole role.Eof = Unit {0}
-IsCommandRole (role.Signal sig) = Unit {0}
-IsCommandRole role.Erase = Unit {0}
-IsCommandRole role.Kill = Unit {0}
-IsCommandRole role.Ignored = Unit {0}
-IsCommandRole _ = ⊥

@@ -19,4 +19,5 @@ pub use pty::{Input, Pair, PtyFault};
 pub use symbols::QUEUE_SYMBOLS;
 
 mod pty;
+mod slots;
 mod symbols;

@@ -2,19 +2,19 @@
 
 ghost use Rattle.std.specs.Prelude.{◌≡◌, ◌&&◌, ◌+◌, ◌-◌, ◌<◌, ◌≤◌, true, None, get_or, All, [], ◌++◌, ◌∷◌};
 ghost use Rattle.std.specs.Prelude.{length, map, take, drop, min, IfOk, IfErr, IfNone, IfSome, OnOk, OnErr};
-ghost use Rattle.std.specs.Prelude.{slice_get, option_copied, count_by, is_some, vec_len, vec_capacity};
-ghost use Rattle.tn_discipline.specs.Keys.{roles_of, role_of_key, literal_role, roles_from};
-ghost use Rattle.tn_discipline.specs.HalfLine.{effect_of, line_after, effect_entries, GivesText};
-ghost use Rattle.tn_discipline.specs.{Advancing.Advances, RolesTable.IsPlain};
-ghost use Rattle.tn_discipline.specs.declared.echo.Symbol.TheVariants.{Byte};
+ghost use Rattle.std.specs.Prelude.{slice_get, option_copied, count_by, is_some, vec_len, vec_capacity, IsTrue};
+ghost use Rattle.tn_discipline.specs.Keys.{roles_of, role_of_key, literal_role, roles_from, gives_entry};
+ghost use Rattle.tn_discipline.specs.{HalfLine.{effect_of, line_after}, Echo.echo_at, Advancing.Advances};
+ghost use Rattle.tn_discipline.specs.{RolesTable.IsPlain, declared.echo.Symbol.TheVariants.Byte};
 ghost use Rattle.tn_pty.specs.Terminal.{new_terminal, queue_with, queue_with_each, output_symbols};
 ghost use Rattle.tn_pty.specs.Terminal.{fitting_count, shut_terminal, first_signal, queue_symbols};
-ghost use Rattle.tn_pty.specs.{Terminal.max_waiting, Runs.leading_run, Typing.{command_shows, IsCommandRole}};
-ghost use Rattle.tn_pty.specs.Typing.{gain_of, symbols_in, echo_symbols, terminal_after, role_of_input};
-ghost use Rattle.tn_pty.specs.Typing.{after_byte, after_all, input_gains, JoinsEdited, command_role};
+ghost use Rattle.tn_pty.specs.{Terminal.max_waiting, Runs.leading_run, Typing.command_role, Waiting.HasSlots};
+ghost use Rattle.tn_pty.specs.Typing.{command_shows, gain_of, symbols_in, echo_symbols, terminal_after};
+ghost use Rattle.tn_pty.specs.Typing.{role_of_input, after_byte, after_all, input_gains, JoinsEdited};
 ghost use Rattle.tn_pty.specs.Faults.{Accepts, Refuses, AcceptsAll, StopsWithin};
 ghost use Rattle.tn_pty.specs.declared.pty.Input.TheVariants.{Keys, Edited};
 
+use crate::slots::{FEW_SLOTS, MAX_WAITING, find_slot, keep, take_first};
 use crate::symbols::{QUEUE_SYMBOLS, Queue};
 use circular_buffer::HeapCircularBuffer;
 use memchr::memchr3;
@@ -23,12 +23,9 @@ use std::marker::Model;
 use thiserror::Error;
 use tn_codes::{Command, Func};
 use tn_discipline::{
-    BELL, Chars, Effect, Entry, Flags, Limit, Line, Role, Roles, Settings, Sig, Symbol,
-    echo_of_role, role_of_literal,
+    BELL, Chars, Entry, Flags, Limit, Line, Role, Roles, Settings, Sig, Symbol, echo_of_role,
+    role_of_literal,
 };
-
-/// The most entries that may wait.
-const MAX_WAITING: usize = 1024;
 
 /// The least number of keys that are shown as they are at which they go into the queue at once.
 const SHORT_RUN: usize = 8;
@@ -50,7 +47,7 @@ pub enum PtyFault {
     /// The key would make an entry while 1,024 wait.
     #[error("too many entries are waiting")]
     TooFarAhead,
-    /// There was no memory for a text.
+    /// There was no memory for the entry that the key would make, or for its text.
     #[error("out of memory")]
     Memory,
     /// The pair was closed before the key came.
@@ -83,7 +80,7 @@ pub struct Pair {
 
 impl Model for Pair {
     ghost use Rattle.std.specs.Prelude.{◌≡◌};
-    ghost use Rattle.tn_pty.specs.Terminal.{Terminal, max_waiting};
+    ghost use Rattle.tn_pty.specs.{Terminal.Terminal, Waiting.HasSlots};
 
     ghost Value = { Terminal };
 
@@ -97,13 +94,14 @@ impl Model for Pair {
       closed = p.closed;
     } };
 
-    ghost invariant = { λ p. p.entries.capacity ≡ max_waiting };
+    ghost invariant = { λ p. HasSlots p.entries };
 }
 
 impl Pair {
     /// Makes a pair at which nothing was typed, of size (0, 0), whose lines have at most `limit`
-    /// bytes with their closing byte. It takes the room for all that it will ever hold, except
-    /// texts.
+    /// bytes with their closing byte. It takes the room for the line, for all symbols and for 16
+    /// entries. It takes room for texts and for more entries when they come, and gives the room for
+    /// entries back once none waits.
     ///
     /// # Errors
     ///
@@ -114,7 +112,7 @@ impl Pair {
         Ok(Pair {
             roles: Roles::new(alloc, settings)?,
             line: Line::new(alloc, limit)?,
-            entries: HeapCircularBuffer::with_capacity(alloc, MAX_WAITING)?,
+            entries: HeapCircularBuffer::with_capacity(alloc, FEW_SLOTS)?,
             queue: Queue::new(alloc)?,
             width: 0,
             height: 0,
@@ -131,7 +129,7 @@ impl Pair {
     /// commands, and all else goes on.
     ///
     /// - `TooFarAhead`: the key makes an entry, and 1,024 wait.
-    /// - `Memory`: there is no memory for the text that the key gives.
+    /// - `Memory`: there is no memory for the entry that the key makes, or for its text.
     /// - `Closed`: the pair was closed before.
     pub fn raw_key(&mut self, key: u8, echo: bool) -> Result<(), PtyFault>
         // After any keys that led to this half-typed line, the entries gain those that this key
@@ -147,19 +145,14 @@ impl Pair {
             IfErr result (λ fault. Refuses self.old role fault self.new) }
     {
         let role = self.roles.role(key);
-        if let Some(fault) = self.refusal(role) {
-            return Err(self.close(fault));
-        }
-        match self.line.play(role) {
-            Ok(effect) => {
-                let shown = echo_of_role(&effect, role, &self.roles.settings().flags);
-                self.keep(effect);
+        match self.enter(role) {
+            Ok(shown) => {
                 if echo {
                     self.show_echo(shown);
                 }
                 Ok(())
             },
-            Err(_) => Err(self.close(PtyFault::Memory)),
+            Err(fault) => Err(fault),
         }
     }
 
@@ -200,15 +193,9 @@ impl Pair {
             IfErr result (λ fault. Refuses self.old role fault self.new) }
     {
         let role = role_of_literal(&self.roles.settings(), byte);
-        if let Some(fault) = self.refusal(role) {
-            return Err(self.close(fault));
-        }
-        match self.line.play(role) {
-            Ok(effect) => {
-                self.keep(effect);
-                Ok(())
-            },
-            Err(_) => Err(self.close(PtyFault::Memory)),
+        match self.enter(role) {
+            Ok(_) => Ok(()),
+            Err(fault) => Err(fault),
         }
     }
 
@@ -250,16 +237,12 @@ impl Pair {
         ensures refused { IfErr result (λ fault. Refuses self.old (command_role command) fault self.new) }
     {
         let role = role_of_command(command);
-        if let Some(fault) = self.refusal(role) {
-            return Err(self.close(fault));
-        }
-        match self.act(role) {
-            Ok(effect) => {
-                self.keep(effect);
+        match self.enter(role) {
+            Ok(_) => {
                 self.show(answer_to(command));
                 Ok(())
             },
-            Err(_) => Err(self.close(PtyFault::Memory)),
+            Err(fault) => Err(fault),
         }
     }
 
@@ -336,7 +319,7 @@ impl Pair {
         ensures some { IfSome result (λ entry. self.old.entries ≡ entry ∷ self.new.entries) }
         ensures rest { self.new ≡ record self.old { entries = self.new.entries } }
     {
-        self.entries.pop_front()
+        take_first(&mut self.entries)
     }
 
     /// Returns an entry that waits, counted from the first, which is 0; `None` if fewer wait.
@@ -533,11 +516,31 @@ impl Pair {
         }
     }
 
+    // Applies a key or a command of this role, and returns its echo, which is not shown yet.
+    fn enter(&mut self, role: Role) -> Result<[Option<Symbol>; 3], PtyFault>
+        ensures echo { IfOk result
+            (λ shown. shown ≡ echo_at self.old.settings.flags role (effect_of self.old.line role)) }
+        ensures pair { OnOk result (self.new ≡ record self.old {
+          line = line_after self.old.line role;
+          entries = self.old.entries ++ gain_of self.old.line role;
+        }) }
+        ensures accepted { OnOk result (Accepts self.old role) }
+        ensures refused { IfErr result (λ fault. Refuses self.old role fault self.new) }
+    {
+        if let Some(fault) = self.refusal(role) {
+            return Err(self.close(fault));
+        }
+        let flags = self.roles.settings().flags;
+        match play(&mut self.line, &mut self.entries, role, &flags) {
+            Ok(shown) => Ok(shown),
+            Err(_) => Err(self.close(PtyFault::Memory)),
+        }
+    }
+
     // Returns the reason why a key of this role is refused, before any memory is looked for.
     fn refusal(&self, role: Role) -> Option<PtyFault>
         ensures none { IfNone result (Accepts self.now role) }
         ensures some { IfSome result (λ fault. Refuses self.now role fault (shut_terminal self.now)) }
-        ensures within { length self.now.entries ≤ max_waiting }
     {
         let is_full = self.entries.len() >= MAX_WAITING;
         if self.closed {
@@ -556,23 +559,6 @@ impl Pair {
     {
         self.closed = true;
         fault
-    }
-
-    // Applies a command of this role to the line.
-    fn act(&mut self, role: Role) -> Result<Effect, AllocError>
-        requires { IsCommandRole role }
-        ensures effect { IfOk result (λ effect. effect ≡ effect_of self.old.line role) }
-        ensures line { OnOk result (self.new ≡ record self.old { line = line_after self.old.line role }) }
-        ensures only_a_text { OnErr result (GivesText self.old.line role) }
-        ensures err { OnErr result (self.new ≡ self.old) }
-    {
-        match role {
-            Role::Eof => self.line.end_of_file(),
-            Role::Erase => Ok(self.line.erase()),
-            Role::Kill => Ok(self.line.kill()),
-            Role::Signal(sig) => Ok(Effect::Gives(Entry::Signal(sig))),
-            _ => Ok(Effect::Nothing),
-        }
     }
 
     // Puts those of the symbols that are there into the queue, or none if they do not all fit.
@@ -596,21 +582,35 @@ impl Pair {
             _ => self.show(&shown),
         }
     }
+}
 
-    // Appends the entry of an effect to those that wait.
-    fn keep(&mut self, effect: Effect)
-        requires { length self.old.entries + length (effect_entries effect) ≤ max_waiting }
-        ensures { self.new ≡ record self.old { entries = self.old.entries ++ effect_entries effect } }
-    {
-        if let Effect::Gives(entry) = effect {
-            let _room = self.entries.try_push_back(entry);
-        }
-    }
+// Applies a key of this role to the line and to the entries, and returns its echo. If there is no memory
+// for the entry that it makes, nothing has changed.
+fn play(
+    line: &mut Line,
+    entries: &mut HeapCircularBuffer<Entry>,
+    role: Role,
+    flags: &Flags,
+) -> Result<[Option<Symbol>; 3], AllocError>
+    requires some { HasSlots entries.old }
+    requires room { IsTrue (gives_entry role) → length entries.old.items < max_waiting }
+    ensures echo { IfOk result (λ shown. shown ≡ echo_at flags.now role (effect_of line.old role)) }
+    ensures line { OnOk result (line.new ≡ line_after line.old role) }
+    ensures entries { OnOk result (entries.new.items ≡ entries.old.items ++ gain_of line.old role) }
+    ensures some { HasSlots entries.new }
+    ensures only_an_entry { OnErr result (IsTrue (gives_entry role)) }
+    ensures err_line { OnErr result (line.new ≡ line.old) }
+    ensures err_entries { OnErr result (entries.new.items ≡ entries.old.items) }
+{
+    find_slot(entries, role)?;
+    let effect = line.play(role)?;
+    let shown = echo_of_role(&effect, role, flags);
+    keep(entries, effect);
+    Ok(shown)
 }
 
 fn role_of_command(command: Command) -> Role
-    ensures value { result ≡ command_role command }
-    ensures role { IsCommandRole result }
+    ensures { result ≡ command_role command }
 {
     match command {
         Command::Eof => Role::Eof,

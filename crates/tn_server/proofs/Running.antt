@@ -1,10 +1,7 @@
 -- Bytes of data that come in runs.
 use Rattle.std.proofs.Common.{◌≡◌, inl, inr, ℕ, Bool, true, false, Result, Ok, Err, OnOk, IfErr, List, [], ◌∷◌, map, refl, sym, ap, ◌∙◌, subst, if◌then◌else◌}
 use Rattle.std.proofs.lemmas.Result.{IfErr-weaker}
-use Rattle.tn_discipline.specs.{declared.termios.Settings.Settings, HalfLine.{HalfLine, GivesText, effect_entries}, Keys.{gives_entry, role_of_key}}
-use Rattle.tn_discipline.specs.declared.keys.Role.{Role}
-use Rattle.tn_discipline.specs.declared.reads.Entry.TheVariants as entry
-use Rattle.tn_discipline.proofs.lemmas.Editing.{quiet_gain}
+use Rattle.tn_discipline.specs.{declared.{termios.Settings.Settings, keys.Role.Role}, Keys.role_of_key}
 use Rattle.tn_linemode.specs.Modes.{edits}
 use Rattle.tn_nvt.specs.declared.items.Item.TheVariants.{Byte}
 use Rattle.tn_pty.specs.{Terminal.Terminal, Typing.{terminal_after, role_of_input, after_byte, after_all}, Faults.{Refuses, StopsWithin}}
@@ -47,17 +44,10 @@ refused_shut mid new r pty.Closed x same = inl (same ∙ ap (λ (t : Terminal). 
 refused_shut mid new r pty.TooFarAhead x same = inr (same ∙ ap (λ (t : Terminal). record mid { terminal = t }) x.3)
 refused_shut mid new r pty.Memory x same = inr (same ∙ ap (λ (t : Terminal). record mid { terminal = t }) x.2)
 
--- a key that gives a text makes an entry
-text_is_entry : (l : HalfLine) (r : Role) (b : Bool) → gives_entry r ≡ b → GivesText l r → b ≡ true
-text_is_entry l r true is text = refl
-text_is_entry l r false is (bytes, gives) =
-    let none : [] ≡ entry.Text bytes ∷ [] = sym (quiet_gain l r is) ∙ ap effect_entries gives in
-    cc
-
 refused_cause : (t new : Terminal) (r : Role) (f : PtyFault) → Refuses t r f new → IsKeyCause t r f
 refused_cause t new r pty.Closed x = x.0
 refused_cause t new r pty.TooFarAhead x = (x.1, x.2)
-refused_cause t new r pty.Memory x = (x.1, x.0.room (text_is_entry t.line r (gives_entry r) refl x.1))
+refused_cause t new r pty.Memory x = (x.1, x.0.room x.1)
 
 -- a key that is typed while the client does not edit is refused for the cause of its role
 pub refused_key : (old : End) (new : Terminal) (byte : ℕ) {T : Type 0} (r : Result T PtyFault) → edits old.modes.current ≡ false

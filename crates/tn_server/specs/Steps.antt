@@ -6,7 +6,7 @@ use Rattle.tn_codes.specs.declared.codes.{Command.{Command, TheVariants.Ga}, Ver
 use Rattle.tn_codes.specs.declared.{payloads.Payload.Payload, triples.Triple.Triple}
 use Rattle.tn_codes.specs.declared.payloads.Payload.TheVariants as payload
 use Rattle.tn_discipline.specs.{declared.termios.Settings.Settings, Characters.{Characters, slot, with_slot}}
-use Rattle.tn_discipline.specs.{HalfLine.GivesText, Keys.gives_entry, declared.keys.Role.Role}
+use Rattle.tn_discipline.specs.{Keys.gives_entry, declared.keys.Role.Role}
 use Rattle.tn_discipline.specs.declared.{reads.Entry.Entry, termios.Flags.Flags}
 use Rattle.tn_linemode.specs.{Folding.{after_all, said_all}, Modes.wish_of_mask, Exchange.server_after}
 use Rattle.tn_linemode.specs.Modes.{Modes, no_mode, edits, mask_sent, modes_after_wish, modes_after_mode}
@@ -172,7 +172,7 @@ IsShut old new = (new ≡ old) ⊎ (new ≡ record old { terminal = shut_termina
 -- why the terminal refuses a key or command of this role
 abbrev pub IsKeyCause : Terminal → Role → PtyFault → Type 0
 IsKeyCause t r pty.TooFarAhead = IsTrue (gives_entry r) × (length t.entries ≡ max_waiting)
-IsKeyCause t r pty.Memory = GivesText t.line r × (length t.entries < max_waiting)
+IsKeyCause t r pty.Memory = IsTrue (gives_entry r) × (length t.entries < max_waiting)
 IsKeyCause t r pty.Closed = IsTrue t.closed
 
 -- memory may be wanted for a payload

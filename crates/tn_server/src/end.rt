@@ -133,7 +133,7 @@ impl ServerEnd {
     /// refused item.
     ///
     /// - `Pty(TooFarAhead)`: an item makes an entry, and 1,024 wait.
-    /// - `Pty(Memory)`: there is no memory for the text of a line.
+    /// - `Pty(Memory)`: there is no memory for an entry, or for its text.
     /// - `Memory`: there is no memory for a reply, a list of characters or a parameter.
     /// - `Failed`: the end had failed before; nothing changes.
     pub fn feed(&mut self, piece: &[u8], out: &mut Vec<u8>) -> Result<(), ServerFault>

@@ -139,6 +139,12 @@ const SCRIPTS: &[(&str, &str)] = &[
          waiting 1024; take-lines; take; write 62; queued",
         "TooFarAhead; Closed; Closed; Closed; half 61; text 0a; none; 1024; none; 1; 1026",
     ),
+    // Entries keep their order if there are more slots for them, and once these are given back.
+    (
+        "keys 03; keys 0a 15; take; keys 04; keys 0a 20; keys 1c; signal; take-lines; take-lines; take; \
+         keys 610a; take",
+        "int; Some(Quit); 15; 20; none; text 610a",
+    ),
     // Keys are typed in runs.
     (
         "run 61620a63037f64; take; take; take; half; pull 99; run 300x65; half; queued; run 0a 1025; \

@@ -8,6 +8,6 @@ pub returns-in-Ok-clause-advances : goal.returns-in-Ok-clause-advances
 returns-in-Ok-clause-advances c =
     let old = c.args.self.now in
     let r = literal_role old.settings.chars c.args.byte in
-    let line : c.keep.new.self.line ≡ line_after old.line r = grind (arith, common_steps) in
-    subst (λ roles. Advances old.line roles (gain_of old.line r) c.keep.new.self.line) (literal_roles old.settings.chars c.args.byte)
+    let line : c.enter.new.self.line ≡ line_after old.line r = grind (arith, common_steps) in
+    subst (λ roles. Advances old.line roles (gain_of old.line r) c.enter.new.self.line) (literal_roles old.settings.chars c.args.byte)
     (rw line (advances old.line r))

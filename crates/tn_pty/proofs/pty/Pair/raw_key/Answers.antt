@@ -16,5 +16,5 @@ pub returns-else-echo-clause-advances : goal.returns-else-echo-clause-advances
 returns-else-echo-clause-advances c =
     let old = c.args.self.now in
     let r = role_of_key old.settings c.args.key in
-    let line : c.keep.new.self.line ≡ line_after old.line r = grind (arith, common_steps) in
-    subst (λ roles. Advances old.line roles (gain_of old.line r) c.keep.new.self.line) (roles_of-one old.settings c.args.key) (rw line (advances old.line r))
+    let line : c.enter.new.self.line ≡ line_after old.line r = grind (arith, common_steps) in
+    subst (λ roles. Advances old.line roles (gain_of old.line r) c.enter.new.self.line) (roles_of-one old.settings c.args.key) (rw line (advances old.line r))
