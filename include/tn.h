@@ -100,11 +100,14 @@ typedef enum tn_code TN_ENUM {
     TN_CLOSED = 8,        /* the terminal takes no input: only when its end fails, so TN_FAILED comes first */
     TN_NO_FUNCTION = 9,   /* RFC 1184 has no function of this number */
     TN_NOT_SETTABLE = 10, /* the function has no special character */
-    TN_RESERVED = 11,     /* 10, 13 and 255 are never special characters */
+    TN_RESERVED = 11,     /* 10, 13 and 255 are never special characters; options 1, 3, 31 and 34 are the end's own */
     TN_TAKEN = 12,        /* another function has this character */
     TN_NOT_ON = 13,       /* LINEMODE is not on */
     TN_TOO_LONG = 14,     /* a forward mask has at most 32 octets, a subnegotiation 512 parameters */
-    TN_NO_COMMAND = 15    /* no command that the call takes, or no verb (WILL to DONT), has this number */
+    TN_NO_COMMAND = 15,   /* no command that the call takes, or no verb (WILL to DONT), has this number */
+    TN_NOT_OWNED = 16,    /* the option is not owned */
+    TN_TOO_LATE = 17,     /* a piece was fed before: an option is owned before the first feed */
+    TN_ITEMS_WAIT = 18    /* 64 items of owned options wait, or more: take them, and feed the piece again */
 } tn_code;
 
 /* Other names of four codes. */
@@ -290,15 +293,16 @@ tn_code tn_server_start(tn_server *server, const tn_flags *flags, uint16_t limit
  * at most 511 entries wait: feed no more at once, and take the entries after each.
  *
  * Returns:
- * - TN_FAILED: the end had failed before, and all is as it was.
+ * - TN_FAILED: a feed was refused before, and all is as it was.
+ * - TN_ITEMS_WAIT: nothing of the piece was read, and all is as it was.
  * - TN_CLOSED, TN_TOO_FAR_AHEAD, TN_MEMORY: the items before the refused one were done, their replies wait, and the end has failed: read
- *   the replies, and close the connection. */
+ *   the replies, and close the connection. If TN_MEMORY comes for an owned option, nothing of the piece reached the end. */
 tn_code tn_server_feed(tn_server *server, const uint8_t *bytes, size_t length) TN_CALL((1));
 
 /* Takes the first bytes of a piece of the client's stream, and sets *taken to their number: at most 512, and none while more than 511
  * entries wait, so that it is never too far ahead. Take the entries, and feed the other bytes after that.
  *
- * Returns: TN_FAILED, TN_CLOSED, TN_MEMORY, which leave what tn_server_feed leaves. */
+ * Returns: TN_FAILED, TN_ITEMS_WAIT, TN_CLOSED, TN_MEMORY, which leave what tn_server_feed leaves. */
 tn_code tn_server_feed_some(tn_server *server, const uint8_t *bytes, size_t length, size_t *taken) TN_CALL((1, 4));
 
 /* Sets *count to the number of bytes that wait to be sent. */
@@ -430,8 +434,10 @@ tn_code tn_client_new_line(tn_client *client) TN_CALL((1));
 /* Takes a piece of the server's stream, cut anywhere: replies wait to be read, text waits to be shown.
  *
  * Returns:
- * - TN_FAILED: the end had failed before, and all is as it was.
- * - TN_MEMORY: the items before the refused one were done, and the end has failed. */
+ * - TN_FAILED: a feed was refused before, and all is as it was.
+ * - TN_ITEMS_WAIT: nothing of the piece was read, and all is as it was.
+ * - TN_MEMORY: the items before the refused one were done, and the end has failed. If it comes for an owned option, nothing of the piece
+ *   reached the end. */
 tn_code tn_client_feed(tn_client *client, const uint8_t *bytes, size_t length) TN_CALL((1));
 
 /* The first call sets *count to the number of bytes that wait to be sent. The second moves the first of them to buf, as many as fit, and
@@ -484,6 +490,36 @@ tn_code tn_client_counts(const tn_client *client, uint16_t *trapped, uint16_t *p
 tn_code tn_client_char(const tn_client *client, uint8_t function, uint16_t *value) TN_CALL((1, 3));
 tn_code tn_client_option(const tn_client *client, bool ours, uint8_t option, tn_option_state *state) TN_CALL((1, 4));
 tn_code tn_client_failed(const tn_client *client, bool *failed) TN_CALL((1, 2));
+
+/* ---- Options of your own, at a server end or a client end ---- */
+
+/* Own an option (GMCP, MSSP, TTYPE ..), before the first feed: the end no longer refuses the option. Its option messages and its
+ * subnegotiations wait in their order until _take_own takes them, the end gets none of them, and _option gives TN_OPTION_NO. To answer them
+ * is up to the caller. A subnegotiation of more than 512 parameters is dropped, as by a tn_decoder.
+ *
+ * Returns: TN_RESERVED, if the option is ECHO (1), SUPPRESS-GO-AHEAD (3), NAWS (31) or LINEMODE (34); TN_TOO_LATE, TN_MEMORY. */
+tn_code tn_server_own(tn_server *server, uint8_t option) TN_CALL((1));
+tn_code tn_client_own(tn_client *client, uint8_t option) TN_CALL((1));
+
+/* Take the first item of owned options that waits, a TN_WORD or a TN_SUBNEGOTIATION; its kind is TN_NO_ITEM if none does. */
+tn_code tn_server_take_own(tn_server *server, tn_item *item) TN_CALL((1, 2));
+tn_code tn_client_take_own(tn_client *client, tn_item *item) TN_CALL((1, 2));
+
+/* Copy the parameters of the item that _take_own took last; *length is 0 if that is no subnegotiation. */
+tn_code tn_server_own_parameters(const tn_server *server, uint8_t *buf, size_t size, size_t *length) TN_CALL((1, 4));
+tn_code tn_client_own_parameters(const tn_client *client, uint8_t *buf, size_t size, size_t *length) TN_CALL((1, 4));
+
+/* Send an option message of an owned option, whose word is 251 WILL to 254 DONT: it waits to be read.
+ *
+ * Returns: TN_NOT_OWNED, TN_NO_COMMAND, TN_MEMORY. */
+tn_code tn_server_say_own(tn_server *server, uint8_t option, uint8_t word) TN_CALL((1));
+tn_code tn_client_say_own(tn_client *client, uint8_t option, uint8_t word) TN_CALL((1));
+
+/* Send a subnegotiation of an owned option, of at most 512 parameters: it waits to be read.
+ *
+ * Returns: TN_NOT_OWNED, TN_TOO_LONG, TN_MEMORY. */
+tn_code tn_server_say_own_sub(tn_server *server, uint8_t option, const uint8_t *parameters, size_t count) TN_CALL((1));
+tn_code tn_client_say_own_sub(tn_client *client, uint8_t option, const uint8_t *parameters, size_t count) TN_CALL((1));
 
 #ifdef __cplusplus
 }

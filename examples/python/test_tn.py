@@ -67,6 +67,34 @@ def floods(server):
     assert refusal(server.feed_at_once, b"\n" * 1025) == tn.TOO_FAR_AHEAD and refusal(server.feed, b"a") == tn.FAILED
 
 
+def owns(server, client):
+    """Options of one's own at both ends: words and subnegotiations wait at the other end, and others are refused as before."""
+    server.own(201, 70)
+    client.own(201)
+    assert refusal(server.own, 31) == tn.RESERVED and refusal(client.say_own, 70, 253) == tn.NOT_OWNED
+    deliver(server, client)
+    assert refusal(client.own, 70) == tn.TOO_LATE and server.own_items() == []
+    client.say_own(201, 253)
+    client.say_own_sub(201, b"Core.Hello \xff")
+    client.keys(b"ls\r")
+    server.feed(client.read() + tn.option(253, 24))
+    assert [(it.kind, it.code, it.option, text) for it, text in server.own_items()] == [
+        (tn.WORD, 253, 201, b""), (tn.SUBNEGOTIATION, 0, 201, b"Core.Hello \xff")]
+    assert server.read().endswith(tn.option(252, 24)) and server.option(True, 201) == tn.OPTION_NO
+    server.say_own(201, 251)
+    server.say_own_sub(201, b"Core.Goodbye")
+    client.feed(server.read())
+    assert [(it.kind, text) for it, text in client.own_items()] == [(tn.WORD, b""), (tn.SUBNEGOTIATION, b"Core.Goodbye")]
+    server.feed(tn.option(253, 201) * 64)
+    assert refusal(server.feed_at_once, b"x") == tn.ITEMS_WAIT and server.take() == (tn.TEXT, b"ls\n")
+    server.feed(tn.option(254, 201) * 200)
+    client.feed(tn.option(251, 201) * 64)
+    client.feed(tn.option(252, 201))
+    assert [it.code for it, _ in server.own_items()] == [253] * 64 + [254] * 200
+    assert [it.code for it, _ in client.own_items()] == [251] * 64 + [252]
+    assert refusal(server.say_own, 70, 250) == tn.NO_COMMAND and refusal(server.say_own_sub, 70, bytes(513)) == tn.TOO_LONG
+
+
 def main():
     tn._library = Heard(tn._library)
     with tn.Server() as server, tn.Client(80, 24) as client:
@@ -95,6 +123,8 @@ def main():
         looks(server, client)
     with tn.Server() as server:
         floods(server)
+    with tn.Server() as server, tn.Client(80, 24) as client:
+        owns(server, client)
     assert str(tn.Refused("tn_line_key", tn.MEMORY)) == "tn_line_key: out of memory (code 1)"
     assert refusal(server.read) == tn.NOT_STARTED and refusal(tn.Line, None, 1) == tn.NO_LIMIT
     with tn.Line(tn.Flags(isig=False)) as line:

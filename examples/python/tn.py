@@ -15,7 +15,7 @@ import os
 from ctypes import POINTER, addressof, byref, c_bool, c_char_p, c_size_t, c_uint8, c_uint16, c_uint32, c_void_p
 
 OK, MEMORY, FAILED, NOT_STARTED, STARTED, OTHER_KIND, NO_LIMIT, TOO_FAR_AHEAD, CLOSED, NO_FUNCTION, NOT_SETTABLE, RESERVED, TAKEN, \
-    NOT_ON, TOO_LONG, NO_COMMAND = range(16)
+    NOT_ON, TOO_LONG, NO_COMMAND, NOT_OWNED, TOO_LATE, ITEMS_WAIT = range(19)
 NONE, TEXT, EOF, INT, QUIT, TSTP, KEPT, ERASED, ERASED_AHEAD, KILLED, DROPPED = range(11)
 NO_ITEM, BYTE, NEWLINE, COMMAND, WORD, SUBNEGOTIATION = range(6)
 CHAR_INTR, CHAR_QUIT, CHAR_EOF, CHAR_SUSP, CHAR_ERASE, CHAR_KILL, CHAR_EOL, CHAR_EOL2 = 3, 7, 8, 9, 10, 11, 17, 18
@@ -104,6 +104,11 @@ CALLS = {
     "server_char": (c_uint8, POINTER(c_uint16)),
     "server_option": (c_bool, c_uint8, POINTER(c_uint32)),
     "server_failed": (POINTER(c_bool),),
+    "server_own": (c_uint8,),
+    "server_take_own": (POINTER(Item),),
+    "server_own_parameters": BUFFER,
+    "server_say_own": (c_uint8, c_uint8),
+    "server_say_own_sub": (c_uint8, *BYTES),
     "client_start": (c_uint16, c_uint16, c_uint16),
     "client_key": (c_uint8,),
     "client_new_line": (),
@@ -122,6 +127,11 @@ CALLS = {
     "client_char": (c_uint8, POINTER(c_uint16)),
     "client_option": (c_bool, c_uint8, POINTER(c_uint32)),
     "client_failed": (POINTER(c_bool),),
+    "client_own": (c_uint8,),
+    "client_take_own": (POINTER(Item),),
+    "client_own_parameters": BUFFER,
+    "client_say_own": (c_uint8, c_uint8),
+    "client_say_own_sub": (c_uint8, *BYTES),
 }
 
 _library = ctypes.CDLL(os.environ.get("LIBTN", "libtn.so.2"))
@@ -283,9 +293,13 @@ class Decoder(_Held):
 class _End(_Edited):
     """The parts that both ends share."""
 
+    def __init__(self, *arguments):
+        super().__init__(*arguments)
+        self._items = []  # items of owned options that were taken, to make room for others
+
     def feed(self, piece):
         """Takes bytes that came, cut anywhere."""
-        self._call("feed", *_given(piece))
+        self._feed("feed", *_given(piece))
 
     def pending(self):
         """Returns the number of bytes that wait to be sent."""
@@ -306,6 +320,43 @@ class _End(_Edited):
     def failed(self):
         return self._value("failed", c_bool)
 
+    def own(self, *options):
+        """Owns options, before anything is fed: the end no longer refuses them, and their items wait for own_items."""
+        for option in options:
+            self._call("own", option)
+
+    def _take_items(self):
+        while True:
+            item = Item()
+            self._call("take_own", byref(item))
+            if item.kind == NO_ITEM:
+                return
+            self._items.append((item, self._bytes("own_parameters", item.length)))
+
+    def own_items(self):
+        """Takes the items of owned options that wait, and returns a list of them, each with its parameters."""
+        self._take_items()
+        items, self._items = self._items, []
+        return items
+
+    def _feed(self, name, *arguments):
+        """Makes a call that feeds; the items of owned options that wait are taken first if there are too many of them."""
+        try:
+            return self._call(name, *arguments)
+        except Refused as refused:
+            if refused.code != ITEMS_WAIT:
+                raise
+            self._take_items()
+            return self._call(name, *arguments)
+
+    def say_own(self, option, word):
+        """Sends an option message of an owned option; `word` is 251 WILL to 254 DONT."""
+        self._call("say_own", option, word)
+
+    def say_own_sub(self, option, parameters):
+        """Sends a subnegotiation of an owned option."""
+        self._call("say_own_sub", option, *_given(parameters))
+
 
 class Server(_End):
     """A server end, with its terminal."""
@@ -321,8 +372,10 @@ class Server(_End):
         """Takes bytes that came, cut anywhere and as many as there are: entries beyond those that may wait are kept in this object."""
         data, length = _given(piece)
         at = ctypes.cast(c_char_p(data), c_void_p).value
+        count = c_size_t()
         while True:
-            taken = self._value("feed_some", c_size_t, at, length)
+            self._feed("feed_some", at, length, byref(count))
+            taken = count.value
             at, length = at + taken, length - taken
             if not length:
                 return

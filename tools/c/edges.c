@@ -46,11 +46,14 @@ const char *tn_code_text(tn_code code)
     case TN_CLOSED: return "the terminal is closed";
     case TN_NO_FUNCTION: return "no such function";
     case TN_NOT_SETTABLE: return "the function has no special character";
-    case TN_RESERVED: return "never a special character";
+    case TN_RESERVED: return "never a special character, or the end's own option";
     case TN_TAKEN: return "another function has this character";
     case TN_NOT_ON: return "LINEMODE is not on";
     case TN_TOO_LONG: return "too long";
     case TN_NO_COMMAND: return "no such command";
+    case TN_NOT_OWNED: return "the option is not owned";
+    case TN_TOO_LATE: return "a piece was fed before";
+    case TN_ITEMS_WAIT: return "items of owned options wait";
     }
     return "no code of this library";
 }

@@ -161,7 +161,7 @@ static void worked_spelling(void)
         SURE(TN_BAD_LIMIT == TN_NO_LIMIT && TN_BAD_FUNCTION == TN_NO_FUNCTION);
         SURE(TN_CHAR_IN_USE == TN_TAKEN && TN_BAD_COMMAND == TN_NO_COMMAND);
         SURE(strcmp(tn_code_text(TN_OK), "done") == 0 && strcmp(tn_code_text(TN_NO_COMMAND), "no such command") == 0);
-        SURE(strcmp(tn_code_text((tn_code)(TN_NO_COMMAND + 1)), "no code of this library") == 0);
+        SURE(strcmp(tn_code_text((tn_code)(TN_ITEMS_WAIT + 1)), "no code of this library") == 0);
     }
 }
 
@@ -324,6 +324,112 @@ static void worked_client(void)
     tn_client_free(&client);
 }
 
+/* The first item of owned options is this, or none waits. */
+static void takes_own(tn_server *server, tn_item_kind kind, uint8_t code, uint8_t option, const char *parameters, size_t length)
+{
+    tn_item item = { TN_BYTE, 77, 77, 77 };
+    size_t count = 77;
+    SURE(tn_server_take_own(server, &item) == TN_OK && item.kind == kind && item.code == code);
+    SURE(item.option == option && item.length == length);
+    memset(buf, 7, 4);
+    SURE(tn_server_own_parameters(server, buf, 2, &count) == TN_OK && count == length && buf[2] == 7);
+    SURE(tn_server_own_parameters(server, buf, sizeof buf, &count) == TN_OK && memcmp(buf, parameters, length) == 0);
+}
+
+/* Options of one's own at a server: their items wait in order, for each cut of the stream, and the end does as it does without them. */
+static void worked_own(void)
+{
+    static const char hello[] = "\xff\xfd\x01\xff\xfd\xc9l\xff\xfa\xc9" "Core.Hello \xff\xff\xff\xf0s\r\0\xff\xfd\x18\xff\xfd\x46\r\n";
+    static const uint8_t zeros[513] = { 0 };
+    for (size_t cut = 1; cut < sizeof hello; cut++) {
+        tn_server server = TN_HANDLE;
+        tn_kind kind = TN_DROPPED;
+        tn_option_state state = TN_OPTION_WANT_NO;
+        size_t count = 77;
+        SURE(tn_server_start(&server, &standard, 255) == TN_OK);
+        SURE(tn_server_own(&server, 201) == TN_OK && tn_server_own(&server, 70) == TN_OK);
+        for (size_t i = 0; i < 4; i++)
+            SURE(tn_server_own(&server, (uint8_t)"\x01\x03\x1f\x22"[i]) == TN_RESERVED);
+        SURE(tn_server_read(&server, buf, sizeof buf, &count) == TN_OK && count == 15);
+        for (size_t at = 0; at < sizeof hello - 1; at += cut) {
+            size_t left = sizeof hello - 1 - at;
+            SURE(tn_server_feed_some(&server, (const uint8_t *)hello + at, left < cut ? left : cut, &count) == TN_OK);
+        }
+        SURE(tn_server_own(&server, 86) == TN_TOO_LATE && tn_server_own(&server, 31) == TN_RESERVED);
+        SAYS(&server, "\xff\xfc\x18"); /* WONT 24: that option is not owned */
+        takes_own(&server, TN_WORD, 253, 201, "", 0);
+        takes_own(&server, TN_SUBNEGOTIATION, 0, 201, "Core.Hello \xff", 12);
+        takes_own(&server, TN_WORD, 253, 70, "", 0);
+        takes_own(&server, TN_NO_ITEM, 0, 0, "", 0);
+        SURE(tn_server_take(&server, &kind) == TN_OK && kind == TN_TEXT);
+        SURE(tn_server_text(&server, buf, sizeof buf, &count) == TN_OK && count == 3 && memcmp(buf, "ls\n", 3) == 0);
+        SURE(tn_server_take(&server, &kind) == TN_OK && kind == TN_TEXT && tn_server_take(&server, &kind) == TN_OK && kind == TN_NONE);
+        SURE(tn_server_option(&server, true, 201, &state) == TN_OK && state == TN_OPTION_NO);
+        SURE(tn_server_say_own(&server, 201, 251) == TN_OK && tn_server_say_own_sub(&server, 201, (const uint8_t *)"a\xff", 2) == TN_OK);
+        SAYS(&server, "\xff\xfb\xc9\xff\xfa\xc9" "a\xff\xff\xff\xf0");
+        SURE(tn_server_say_own(&server, 24, 251) == TN_NOT_OWNED && tn_server_say_own_sub(&server, 24, zeros, 513) == TN_NOT_OWNED);
+        SURE(tn_server_say_own(&server, 24, 7) == TN_NOT_OWNED && tn_server_say_own(&server, 201, 250) == TN_NO_COMMAND);
+        SURE(tn_server_say_own_sub(&server, 201, zeros, 513) == TN_TOO_LONG && tn_server_say_own_sub(&server, 201, zeros, 512) == TN_OK);
+        SURE(tn_server_read(&server, buf, sizeof buf, &count) == TN_OK && count == 517);
+        tn_server_free(&server);
+    }
+}
+
+/* No piece is read while 64 items of owned options wait; once they are taken, the same piece is. Memory that is refused to one of them
+ * fails the feed, and those after it. */
+static void worked_own_wait(void)
+{
+    tn_server server = TN_HANDLE;
+    tn_kind kind = TN_DROPPED;
+    size_t count = 77, taken = 77;
+    bool failed = true;
+    SURE(tn_server_start(&server, &standard, 255) == TN_OK && tn_server_own(&server, 70) == TN_OK);
+    for (int i = 0; i < 64; i++)
+        FEED(&server, "\xff\xfb\x46");
+    SURE(tn_server_feed(&server, (const uint8_t *)"a\r\0", 3) == TN_ITEMS_WAIT);
+    SURE(tn_server_feed_some(&server, (const uint8_t *)"a\r\0", 3, &taken) == TN_ITEMS_WAIT && taken == 77);
+    takes_own(&server, TN_WORD, 251, 70, "", 0);
+    SURE(tn_server_feed_some(&server, (const uint8_t *)"a\r\0", 3, &taken) == TN_OK && taken == 3);
+    SURE(tn_server_take(&server, &kind) == TN_OK && kind == TN_TEXT && tn_server_take(&server, &kind) == TN_OK && kind == TN_NONE);
+    for (int i = 0; i < 63; i++)
+        takes_own(&server, TN_WORD, 251, 70, "", 0);
+    takes_own(&server, TN_NO_ITEM, 0, 0, "", 0);
+    SURE(tn_server_failed(&server, &failed) == TN_OK && !failed);
+    memset(buf, 'x', 4096);
+    refused_call = calls + 1;
+    SURE(tn_server_feed(&server, buf, 4096) == TN_MEMORY);
+    refused_call = 0;
+    SURE(tn_server_feed(&server, buf, 1) == TN_FAILED && tn_server_feed_some(&server, buf, 1, &taken) == TN_FAILED);
+    SURE(tn_server_failed(&server, &failed) == TN_OK && failed);
+    SURE(tn_server_half(&server, buf, sizeof buf, &count) == TN_OK && count == 0);
+    tn_server_free(&server);
+}
+
+static void worked_own_at_client(void)
+{
+    tn_client client = TN_HANDLE;
+    tn_item item = { TN_BYTE, 77, 77, 77 };
+    size_t count = 77;
+    bool failed = true;
+    SURE(tn_client_start(&client, 80, 24, 255) == TN_OK && tn_client_own(&client, 201) == TN_OK);
+    SURE(tn_client_own(&client, 34) == TN_RESERVED && tn_client_say_own(&client, 70, 253) == TN_NOT_OWNED);
+    SURE(tn_client_say_own(&client, 201, 253) == TN_OK && tn_client_say_own_sub(&client, 201, (const uint8_t *)"x", 1) == TN_OK);
+    CLIENT_SAYS(&client, "\xff\xfd\xc9\xff\xfa\xc9x\xff\xf0", "");
+    SURE(tn_client_feed(&client, (const uint8_t *)"h\xff\xfb\xc9i\xff\xfb\x18\xff\xfa\xc9yz\xff\xf0", 15) == TN_OK);
+    SURE(tn_client_own(&client, 70) == TN_TOO_LATE);
+    CLIENT_SAYS(&client, "\xff\xfe\x18", "hi");
+    SURE(tn_client_take_own(&client, &item) == TN_OK && item.kind == TN_WORD && item.code == 251 && item.option == 201);
+    SURE(tn_client_take_own(&client, &item) == TN_OK && item.kind == TN_SUBNEGOTIATION && item.length == 2);
+    SURE(tn_client_own_parameters(&client, buf, sizeof buf, &count) == TN_OK && count == 2 && memcmp(buf, "yz", 2) == 0);
+    SURE(tn_client_take_own(&client, &item) == TN_OK && item.kind == TN_NO_ITEM);
+    for (int i = 0; i < 64; i++)
+        SURE(tn_client_feed(&client, (const uint8_t *)"\xff\xfb\xc9", 3) == TN_OK);
+    SURE(tn_client_feed(&client, (const uint8_t *)"xy", 2) == TN_ITEMS_WAIT && tn_client_take_own(&client, &item) == TN_OK);
+    SURE(tn_client_feed(&client, (const uint8_t *)"xy", 2) == TN_OK && tn_client_failed(&client, &failed) == TN_OK && !failed);
+    CLIENT_SAYS(&client, "", "xy");
+    tn_client_free(&client);
+}
+
 /* What docs/C.md says of memory: each takes no more than this from malloc when it starts. */
 static void worked_memory(void)
 {
@@ -332,13 +438,13 @@ static void worked_memory(void)
     tn_line line = TN_HANDLE;
     tn_decoder decoder = TN_HANDLE;
     asked = 0;
-    SURE(tn_server_start(&server, &standard, 255) == TN_OK && asked <= 9886);
+    SURE(tn_server_start(&server, &standard, 255) == TN_OK && asked <= 10062);
     asked = 0;
-    SURE(tn_client_start(&client, 80, 24, 255) == TN_OK && asked <= 655);
+    SURE(tn_client_start(&client, 80, 24, 255) == TN_OK && asked <= 831);
     asked = 0;
-    SURE(tn_line_start(&line, &standard, 255) == TN_OK && asked <= 655);
+    SURE(tn_line_start(&line, &standard, 255) == TN_OK && asked <= 831);
     asked = 0;
-    SURE(tn_decoder_start(&decoder) == TN_OK && asked <= 400);
+    SURE(tn_decoder_start(&decoder) == TN_OK && asked <= 576);
     tn_server_free(&server);
     tn_client_free(&client);
     tn_line_free(&line);
@@ -412,7 +518,8 @@ static void worked_threads(void)
 /* Each code is TN_OK, or of a refusal of memory. */
 static bool may(tn_code code)
 {
-    SURE(code == TN_OK || code == TN_MEMORY || code == TN_FAILED || code == TN_NOT_STARTED || code == TN_NOT_ON);
+    SURE(code == TN_OK || code == TN_MEMORY || code == TN_FAILED || code == TN_NOT_STARTED || code == TN_NOT_ON
+        || code == TN_NOT_OWNED);
     return code == TN_OK;
 }
 
@@ -486,6 +593,32 @@ static void worked_pair(void)
     tn_client_free(&client);
 }
 
+/* Both ends with an option of their own. */
+static void own_session(void)
+{
+    tn_server server = TN_HANDLE;
+    tn_client client = TN_HANDLE;
+    tn_item item = { TN_NO_ITEM, 0, 0, 0 };
+    size_t count = 0;
+    may(tn_server_start(&server, &standard, 255));
+    may(tn_client_start(&client, 80, 24, 255));
+    if (may(tn_server_own(&server, 201)) && may(tn_client_own(&client, 201))) {
+        may(tn_client_key(&client, '\r'));
+        may(tn_client_say_own(&client, 201, 253));
+        may(tn_client_say_own_sub(&client, 201, (const uint8_t *)"Core.Hello", 10));
+        deliver(&server, &client);
+        may(tn_server_take_own(&server, &item));
+        may(tn_server_take_own(&server, &item));
+        may(tn_server_own_parameters(&server, buf, sizeof buf, &count));
+        may(tn_server_say_own(&server, 201, 251));
+        may(tn_server_say_own_sub(&server, 201, (const uint8_t *)"Core.Goodbye", 12));
+        deliver(&server, &client);
+        may(tn_client_take_own(&client, &item));
+    }
+    tn_server_free(&server);
+    tn_client_free(&client);
+}
+
 /* A session of both ends, with a line that is edited at the client, and a line and a decoder beside it. */
 static void session(void)
 {
@@ -524,6 +657,7 @@ static void session(void)
     may(tn_server_say(&server, buf, sizeof buf, &count));
     may(tn_server_peek(&server, &bytes, &count));
     may(tn_server_sent(&server, count));
+    own_session();
     may(tn_line_start(&line, &standard, 255));
     for (const char *key = "abc\r\x04" "d\x04"; *key; key++)
         may(tn_line_key(&line, (uint8_t)*key, &kind));
@@ -648,6 +782,9 @@ int main(int argc, char **argv)
         worked_output();
         worked_some();
         worked_client();
+        worked_own();
+        worked_own_wait();
+        worked_own_at_client();
         worked_pair();
         worked_memory();
         worked_slots();

@@ -76,6 +76,11 @@ static bool is_blank(const struct given *g)
     X(SERVER, server_char, (h, TN_CHAR_EOL, &g->width)) \
     X(SERVER, server_option, (h, true, 1, &g->state)) \
     X(SERVER, server_failed, (h, &g->yes)) \
+    X(SERVER, server_own, (h, 201)) \
+    X(SERVER, server_take_own, (h, &g->item)) \
+    X(SERVER, server_own_parameters, (h, TO_BUF)) \
+    X(SERVER, server_say_own, (h, 201, 251)) \
+    X(SERVER, server_say_own_sub, (h, 201, BYTES)) \
     X(CLIENT, client_key, (h, 'a')) \
     X(CLIENT, client_new_line, (h)) \
     X(CLIENT, client_feed, (h, BYTES)) \
@@ -92,7 +97,12 @@ static bool is_blank(const struct given *g)
     X(CLIENT, client_counts, (h, &g->width, &g->height)) \
     X(CLIENT, client_char, (h, TN_CHAR_EOL, &g->width)) \
     X(CLIENT, client_option, (h, true, 1, &g->state)) \
-    X(CLIENT, client_failed, (h, &g->yes))
+    X(CLIENT, client_failed, (h, &g->yes)) \
+    X(CLIENT, client_own, (h, 201)) \
+    X(CLIENT, client_take_own, (h, &g->item)) \
+    X(CLIENT, client_own_parameters, (h, TO_BUF)) \
+    X(CLIENT, client_say_own, (h, 201, 251)) \
+    X(CLIENT, client_say_own_sub, (h, 201, BYTES))
 
 /* A call that gives nothing there, and counts so many bytes. */
 #define COUNTS(count_, ...) \
@@ -278,6 +288,9 @@ static void takes_no_bytes(uint8_t *at)
     NONE(tn_client_read(&client, at, 0, &g.count));
     NONE(tn_client_screen(&client, at, 0, &g.count));
     NONE(tn_client_half(&client, at, 0, &g.count));
+    NONE(tn_server_own_parameters(&server, at, 0, &g.count));
+    NONE(tn_client_own_parameters(&client, at, 0, &g.count));
+    SURE(tn_server_say_own_sub(&server, 201, at, 0) == TN_NOT_OWNED);
     g.count = 77;
     SURE(is_blank(&g));
     is_as_it_was(&line, LINE), is_as_it_was(&decoder, DECODER);
@@ -285,15 +298,25 @@ static void takes_no_bytes(uint8_t *at)
     tn_end(&line), tn_end(&decoder), tn_end(&server), tn_end(&client);
 }
 
-/* The answer of each call of an end that has failed, in the order of CALLS; those that only read go on. */
+/* The answer of a call of an end that has failed, and that owns no option: those that only read go on. */
+static tn_code answer_then(const char *name, bool (*is_refused_then)(const char *))
+{
+    if (strstr(name, "_say_own"))
+        return TN_NOT_OWNED;
+    if (strstr(name, "_own") && !strstr(name, "_take_own") && !strstr(name, "_own_parameters"))
+        return TN_TOO_LATE;
+    return is_refused_then(name) ? TN_FAILED : TN_OK;
+}
+
+/* The answer of each call of an end that has failed, in the order of CALLS. */
 static void fails(tn_handle h, int kind, bool (*is_refused_then)(const char *))
 {
     for (size_t i = 0; i < COUNT(rows); i++) {
         struct given g = blank;
+        tn_code wanted = answer_then(rows[i].name, is_refused_then);
         if (rows[i].kind != kind)
             continue;
-        if (rows[i].call(&h, &g) != (is_refused_then(rows[i].name) ? TN_FAILED : TN_OK)
-            || (is_refused_then(rows[i].name) && !is_blank(&g))) {
+        if (rows[i].call(&h, &g) != wanted || (wanted != TN_OK && !is_blank(&g))) {
             fprintf(stderr, "wrong_uses: tn_%s of a failed end\n", rows[i].name);
             exit(3);
         }

@@ -6,6 +6,7 @@ pub mod Echoes
 pub mod Entries
 pub mod Waiting
 pub mod Items
+pub mod OwnOptions
 pub mod Terminals
 pub mod Readings
 pub mod Changes

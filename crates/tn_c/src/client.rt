@@ -1,17 +1,19 @@
 //! The calls of a client end.
 
-ghost use Rattle.std.specs.Prelude.{◌≡◌, None, length};
+ghost use Rattle.std.specs.Prelude.{◌≡◌, ◌||◌, None, length};
 ghost use Rattle.tn_discipline.specs.Limits.{is_limit};
 ghost use Rattle.tn_c.specs.parts.{Calling.{Looks, Does, OfFunction, GivesChar}, Readings.char_given};
 ghost use Rattle.tn_c.specs.parts.ClientCalls.{IsOpened, KeyCall, FeedCall, ResizeCall, ProposeCall};
 ghost use Rattle.tn_c.specs.parts.ClientCalls.{NewLineCall, SendNumberCall, ReadCall, ScreenCall, GivesMode};
 ghost use Rattle.tn_c.specs.parts.ClientCalls.{GivesHalf, GivesAhead, GivesCounts, GivesOption, IsClientChar};
+ghost use Rattle.tn_c.specs.parts.ClientCalls.{OnOwned, SayOwnCall, SayOwnSubCall};
+ghost use Rattle.tn_c.specs.parts.{Bytes.Gives, Items.parameters_of, OwnOptions.{OwnCall, TakeOwnCall}};
 ghost use Rattle.tn_c.specs.Holding.{HoldsClient, CallsClient, Starts, NoPointer};
 
 use crate::calls::call_held;
 use crate::handle::Handle;
 use crate::held::Held;
-use crate::parts::{Code, HeldClient};
+use crate::parts::{Code, HeldClient, ItemSeen};
 use std::alloc::Global;
 use tn_discipline::Limit;
 
@@ -112,6 +114,67 @@ pub extern "C" fn tn_client_send(alloc: Global, handle: &mut Handle, command: u3
         (SendNumberCall command) }
 {
     call_held!(handle, alloc, Client, client => client.send_command(command))
+}
+
+/// Owns an option, before anything came: its option messages and subnegotiations wait from then on,
+/// and the end gets none of them.
+#[unsafe(no_mangle)]
+pub extern "C" fn tn_client_own(alloc: Global, handle: &mut Handle, option: u8) -> u32
+    ensures { CallsClient handle.old.held handle.new.held result NoPointer
+        (λ answer. OnOwned (OwnCall option answer)) }
+{
+    call_held!(handle, alloc, Client, client => client.own(option))
+}
+
+/// Takes the first item of owned options that waits, if there is one.
+#[unsafe(no_mangle)]
+pub extern "C" fn tn_client_take_own(alloc: Global, handle: &mut Handle, item: &mut ItemSeen) -> u32
+    ensures { CallsClient handle.old.held handle.new.held result (item.new ≡ item.old)
+        (Does (OnOwned (TakeOwnCall item.new))) }
+{
+    call_held!(handle, alloc, Client, client => { client.take_own(item); Code::Done })
+}
+
+/// Copies the first parameters of the item of owned options that was taken last, as many as fit,
+/// and sets `count` to the number of all of them.
+#[unsafe(no_mangle)]
+pub extern "C" fn tn_client_own_parameters(
+    alloc: Global,
+    handle: &mut Handle,
+    buf: &mut [u8],
+    count: &mut usize,
+) -> u32
+    ensures { CallsClient handle.old.held handle.new.held result
+        ((buf.new ≡ buf.old) × (count.new ≡ count.old))
+        (Looks (λ client. Gives (parameters_of client.owned.item) buf.old buf.new count.new)) }
+{
+    call_held!(
+        handle, alloc, Client,
+        client => { client.owned.parameters(buf, count); Code::Done }
+    )
+}
+
+/// Sends an option message of an owned option, whose verb has this byte.
+#[unsafe(no_mangle)]
+pub extern "C" fn tn_client_say_own(alloc: Global, handle: &mut Handle, option: u8, word: u8) -> u32
+    ensures { CallsClient handle.old.held handle.new.held result NoPointer
+        (SayOwnCall option word) }
+{
+    call_held!(handle, alloc, Client, client => client.say_own(option, word))
+}
+
+/// Sends a subnegotiation of an owned option, of at most 512 parameters.
+#[unsafe(no_mangle)]
+pub extern "C" fn tn_client_say_own_sub(
+    alloc: Global,
+    handle: &mut Handle,
+    option: u8,
+    parameters: &[u8],
+) -> u32
+    ensures { CallsClient handle.old.held handle.new.held result NoPointer
+        (SayOwnSubCall option parameters.now) }
+{
+    call_held!(handle, alloc, Client, client => client.say_own_sub(option, parameters))
 }
 
 /// Sets `count` to the number of bytes that wait to be sent.
@@ -256,7 +319,7 @@ pub extern "C" fn tn_client_option(
 #[unsafe(no_mangle)]
 pub extern "C" fn tn_client_failed(alloc: Global, handle: &mut Handle, failed: &mut bool) -> u32
     ensures { CallsClient handle.old.held handle.new.held result (failed.new ≡ failed.old)
-        (Looks (λ client. failed.new ≡ client.end.failed)) }
+        (Looks (λ client. failed.new ≡ (client.end.failed || client.owned.failed))) }
 {
-    call_held!(handle, alloc, Client, client => { *failed = client.end.failed(); Code::Done })
+    call_held!(handle, alloc, Client, client => { *failed = client.failed(); Code::Done })
 }

@@ -1,24 +1,25 @@
 //! The calls of a server end.
 
-ghost use Rattle.std.specs.Prelude.{◌≡◌, None, length, slice_get};
+ghost use Rattle.std.specs.Prelude.{◌≡◌, ◌||◌, None, length, slice_get};
 ghost use Rattle.tn_discipline.specs.{Limits.is_limit, Characters.standard_characters};
 ghost use Rattle.tn_option.specs.Options.{state_of};
 ghost use Rattle.tn_pty.specs.Terminal.{first_signal};
 ghost use Rattle.tn_server.specs.{Calls.{LeadsTo, call_fault}, Events.{History, echo_set}, Screen.size};
 ghost use Rattle.tn_server.specs.{Lines.{half, waiting}, Terms.{mode, asked_mask, options}};
-ghost use Rattle.tn_c.specs.parts.{Bytes.Gives, Calling.{Looks, Does, OfFunction, GivesChar}};
+ghost use Rattle.tn_c.specs.{parts.Bytes.Gives, Holding.{HoldsServer, CallsServer, Starts, NoPointer}};
+ghost use Rattle.tn_c.specs.parts.{Calling.{Looks, Does, OfFunction, GivesChar}, Changes.ChangesCall};
 ghost use Rattle.tn_c.specs.parts.{Entries.{kind_number, signal_number, text_of}, Terminals.flags_given};
 ghost use Rattle.tn_c.specs.parts.Readings.{char_given, editing_given, side_given, state_number};
-ghost use Rattle.tn_c.specs.parts.ServerCalls.{IsOpened, Acts, FeedCall, TakeCall, ForgetCall, WriteCall};
 ghost use Rattle.tn_c.specs.parts.ServerCalls.{PullCall, WishCall, SetCharCall, SetMaskCall, SetOctetsCall};
+ghost use Rattle.tn_c.specs.parts.ServerCalls.{IsOpened, Acts, FeedCall, TakeCall, ForgetCall, WriteCall};
 ghost use Rattle.tn_c.specs.parts.ServerCalls.{FeedSomeCall, SayCall, GivesPending, SentCall, ReadCall};
-ghost use Rattle.tn_c.specs.parts.{ServerCalls.IsServerChar, Changes.ChangesCall};
-ghost use Rattle.tn_c.specs.Holding.{HoldsServer, CallsServer, Starts, NoPointer};
+ghost use Rattle.tn_c.specs.parts.ServerCalls.{IsServerChar, OnOwned, SayOwnCall, SayOwnSubCall};
+ghost use Rattle.tn_c.specs.parts.{Items.parameters_of, OwnOptions.{OwnCall, TakeOwnCall}};
 
 use crate::calls::call_held;
 use crate::handle::Handle;
 use crate::held::Held;
-use crate::parts::{Code, HeldServer, TerminalFlags};
+use crate::parts::{Code, HeldServer, ItemSeen, TerminalFlags};
 use std::alloc::Global;
 use tn_discipline::{Chars, Limit, Settings};
 
@@ -223,6 +224,67 @@ pub extern "C" fn tn_server_clear_mask(alloc: Global, handle: &mut Handle) -> u3
     call_held!(handle, alloc, Server, server => server.set_mask(None))
 }
 
+/// Owns an option, before anything came: its option messages and subnegotiations wait from then on,
+/// and the end gets none of them.
+#[unsafe(no_mangle)]
+pub extern "C" fn tn_server_own(alloc: Global, handle: &mut Handle, option: u8) -> u32
+    ensures { CallsServer handle.old.held handle.new.held result NoPointer
+        (λ answer. OnOwned (OwnCall option answer)) }
+{
+    call_held!(handle, alloc, Server, server => server.own(option))
+}
+
+/// Takes the first item of owned options that waits, if there is one.
+#[unsafe(no_mangle)]
+pub extern "C" fn tn_server_take_own(alloc: Global, handle: &mut Handle, item: &mut ItemSeen) -> u32
+    ensures { CallsServer handle.old.held handle.new.held result (item.new ≡ item.old)
+        (Does (OnOwned (TakeOwnCall item.new))) }
+{
+    call_held!(handle, alloc, Server, server => { server.take_own(item); Code::Done })
+}
+
+/// Copies the first parameters of the item of owned options that was taken last, as many as fit,
+/// and sets `count` to the number of all of them.
+#[unsafe(no_mangle)]
+pub extern "C" fn tn_server_own_parameters(
+    alloc: Global,
+    handle: &mut Handle,
+    buf: &mut [u8],
+    count: &mut usize,
+) -> u32
+    ensures { CallsServer handle.old.held handle.new.held result
+        ((buf.new ≡ buf.old) × (count.new ≡ count.old))
+        (Looks (λ server. Gives (parameters_of server.owned.item) buf.old buf.new count.new)) }
+{
+    call_held!(
+        handle, alloc, Server,
+        server => { server.owned.parameters(buf, count); Code::Done }
+    )
+}
+
+/// Sends an option message of an owned option, whose verb has this byte.
+#[unsafe(no_mangle)]
+pub extern "C" fn tn_server_say_own(alloc: Global, handle: &mut Handle, option: u8, word: u8) -> u32
+    ensures { CallsServer handle.old.held handle.new.held result NoPointer
+        (SayOwnCall option word) }
+{
+    call_held!(handle, alloc, Server, server => server.say_own(option, word))
+}
+
+/// Sends a subnegotiation of an owned option, of at most 512 parameters.
+#[unsafe(no_mangle)]
+pub extern "C" fn tn_server_say_own_sub(
+    alloc: Global,
+    handle: &mut Handle,
+    option: u8,
+    parameters: &[u8],
+) -> u32
+    ensures { CallsServer handle.old.held handle.new.held result NoPointer
+        (SayOwnSubCall option parameters.now) }
+{
+    call_held!(handle, alloc, Server, server => server.say_own_sub(option, parameters))
+}
+
 /// Sets `count` to the number of bytes that wait to be read.
 #[unsafe(no_mangle)]
 pub extern "C" fn tn_server_pending(alloc: Global, handle: &mut Handle, count: &mut usize) -> u32
@@ -420,7 +482,7 @@ pub extern "C" fn tn_server_option(
 #[unsafe(no_mangle)]
 pub extern "C" fn tn_server_failed(alloc: Global, handle: &mut Handle, failed: &mut bool) -> u32
     ensures { CallsServer handle.old.held handle.new.held result (failed.new ≡ failed.old)
-        (Looks (λ server. failed.new ≡ server.end.failed)) }
+        (Looks (λ server. failed.new ≡ (server.end.failed || server.owned.failed))) }
 {
-    call_held!(handle, alloc, Server, server => { *failed = server.end.failed(); Code::Done })
+    call_held!(handle, alloc, Server, server => { *failed = server.failed(); Code::Done })
 }

@@ -88,15 +88,16 @@ pub call_acts : {T : Type 0} (e : Event) (cause : client.End → Option ClientFa
     → answer ≡ client_answer r → OnOk r (after.end ≡ end_after before.end e)
     → OnOk r (after.pending.items ≡ before.pending.items ++ spells (says before.end e)) → answers.AnswersBy (cause before.end) r
     → OnErr r (answers.SaysNothing before.end before.pending.items after.pending.items after.end)
-    → (answer ≢ code.Done → after.shown.items ≡ before.shown.items) → Acts e cause answer before after
-call_acts e cause r answer before after is step out caused err shown =
+    → (answer ≢ code.Done → after.shown.items ≡ before.shown.items) → after.owned ≡ before.owned → Acts e cause answer before after
+call_acts e cause r answer before after is step out caused err shown owned =
     let by = as_caused (cause before.end) r answer is caused in
     record {
       step = when_done r answer is step;
       sends = when_done r answer is out;
       accepted = by.0;
       refused = by.1;
-      err = λ refused. let same = unless_done r answer is err refused in record { end = same.end; pending = same.out; shown = shown refused };
+      err = λ refused. let same = unless_done r answer is err refused in record { end = same.end; pending = same.out; shown = shown refused; owned = owned };
+      owned = owned;
     }
 
 -- a key that is refused sends nothing
@@ -111,11 +112,11 @@ pub key_acts : {T : Type 0} (e : Event) (r : Result T ClientFault) (answer : Cod
     → OnOk r (after.pending.items ≡ before.pending.items ++ spells (says before.end e))
     → answers.AnswersBy (call_fault before.end) r
     → OnErr r (answers.Untouched before.end before.pending.items after.pending.items before.shown.items after.shown.items after.end)
-    → Acts e call_fault answer before after
-key_acts e r answer before after is step out caused err =
+    → after.owned ≡ before.owned → Acts e call_fault answer before after
+key_acts e r answer before after is step out caused err owned =
     call_acts e call_fault r answer before after is step out caused
     (key_says_nothing r before.end after.end before.pending.items after.pending.items before.shown.items after.shown.items err)
-    (λ refused. (unless_done r answer is err refused).screen)
+    (λ refused. (unless_done r answer is err refused).screen) owned
 
 -- no character is refused by the pair
 pub never_pty : (failed : Bool) (o : Option CharFault) (f : ServerFault) (p : PtyFault) → f ≡ fault.Pty p

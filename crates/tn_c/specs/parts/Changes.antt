@@ -54,3 +54,4 @@ pub record ChangesCall (bits : ℕ) (before after : HeldServer) : Type 0 where
   pub end : after.end ≡ before.end
   pub pending : after.pending.items ≡ before.pending.items
   pub entry : after.entry ≡ before.entry
+  pub owned : after.owned ≡ before.owned

@@ -14,7 +14,8 @@ use Rattle.tn_nvt.specs.Spelling.{lf, spells}
 use Rattle.tn_nvt.specs.Feeding as nvt
 use Rattle.tn_c.specs.{parts.{Bytes.{Copies, Gives}, Faults.client_refusal}, declared.parts.codes.Code.Code}
 use Rattle.tn_c.specs.parts.Readings.{char_number, command_number, side_given, state_number}
-use Rattle.tn_c.specs.declared.parts.client.HeldClient.{HeldClient}
+use Rattle.tn_c.specs.parts.OwnOptions.{Comes, OwnsNone, PutsWord, PutsSub}
+use Rattle.tn_c.specs.declared.parts.{client.HeldClient.HeldClient, owned.Owned.Owned}
 use Rattle.tn_c.specs.declared.parts.codes.Code.TheVariants as code
 
 -- All that is held is as it was.
@@ -22,6 +23,7 @@ pub record Untouched (old new : HeldClient) : Type 0 where
   pub end : new.end ≡ old.end
   pub pending : new.pending.items ≡ old.pending.items
   pub shown : new.shown.items ≡ old.shown.items
+  pub owned : new.owned ≡ old.owned
 
 -- A call of the owner, which is this event, and which may be refused for such a cause.
 pub record Acts (e : Event) (cause : End → Option ClientFault) (answer : Code) (before after : HeldClient)
@@ -31,6 +33,7 @@ pub record Acts (e : Event) (cause : End → Option ClientFault) (answer : Code)
   pub accepted : answer ≡ code.Done → cause before.end ≡ None
   pub refused : (answer ≡ code.Done) ⊎ (answer ≡ client_refusal (cause before.end))
   pub err : answer ≢ code.Done → Untouched before after
+  pub owned : after.owned ≡ before.owned
 
 -- The call types a key.
 pub record KeyCall (key : ℕ) (answer : Code) (before after : HeldClient) : Type 0 where
@@ -69,16 +72,50 @@ pub record SendNumberCall (number : ℕ) (answer : Code) (before after : HeldCli
   pub unknown : (answer ≡ code.NoCommand) ↔ ((command : UserCommand) → command_number command ≢ number)
   pub stays : answer ≡ code.NoCommand → after ≡ before
 
--- The call takes a piece of the server's stream.
-pub record FeedCall (piece : List ℕ) (answer : Code) (before after : HeldClient) : Type 0 where
-  pub feeds : answer ≡ code.Done → Feeds before.end piece
-      before.pending.items after.pending.items before.shown.items after.shown.items after.end
-  pub accepted : answer ≡ code.Done → call_fault before.end ≡ None
-  pub refused : (answer ≡ code.Done) ⊎ (answer ≡ client_refusal (call_fault before.end))
-  pub memory : answer ≡ code.Memory → StopsWithin before.end piece
-      before.pending.items after.pending.items before.shown.items after.shown.items
-  pub err : answer ≢ code.Done → IsTrue after.end.failed
-  pub failed : answer ≡ code.Failed → Untouched before after
+-- The end takes a piece of the server's stream: its replies are appended, and so is what it shows.
+pub record EndTakes (answer : Code) (old new : End) (before after seen now piece : List ℕ) : Type 0 where
+  pub feeds : answer ≡ code.Done → Feeds old piece before after seen now new
+  pub accepted : answer ≡ code.Done → call_fault old ≡ None
+  pub refused : (answer ≡ code.Done) ⊎ (answer ≡ client_refusal (call_fault old))
+  pub memory : answer ≡ code.Memory → StopsWithin old piece before after seen now
+  pub err : answer ≢ code.Done → IsTrue new.failed
+  pub failed : answer ≡ code.Failed → (new ≡ old) × (after ≡ before) × (now ≡ seen)
+
+-- The end is as it was, and so is what waits to be sent and to be shown.
+pub record Rests (old new : HeldClient) : Type 0 where
+  pub end : new.end ≡ old.end
+  pub pending : new.pending.items ≡ old.pending.items
+  pub shown : new.shown.items ≡ old.shown.items
+
+-- the call takes a piece of the server's stream: the end gets it without the items of owned options
+abbrev pub FeedCall : List ℕ → Code → HeldClient → HeldClient → Type 0
+FeedCall piece answer before after =
+    Comes piece answer before.owned after.owned before.end.failed
+    (EndTakes answer before.end after.end
+    before.pending.items after.pending.items before.shown.items after.shown.items)
+    (Rests before after)
+
+-- A call about owned options: R of them before and after, and all else is as it was.
+pub record OnOwned (R : Owned → Owned → Type 0) (before after : HeldClient) : Type 0 where
+  pub owned : R before.owned after.owned
+  pub rests : Rests before after
+
+-- All but what waits to be sent is as it was.
+pub record OnlySends (before after : HeldClient) : Type 0 where
+  pub end : after.end ≡ before.end
+  pub shown : after.shown.items ≡ before.shown.items
+  pub owned : after.owned ≡ before.owned
+
+-- The call sends an option message of an owned option.
+pub record SayOwnCall (option word : ℕ) (answer : Code) (before after : HeldClient) : Type 0 where
+  pub puts : PutsWord before.owned.sieve.options.items option word answer before.pending after.pending
+  pub only : OnlySends before after
+
+-- The call sends a subnegotiation of an owned option.
+pub record SayOwnSubCall (option : ℕ) (params : List ℕ) (answer : Code) (before after : HeldClient)
+    : Type 0 where
+  pub puts : PutsSub before.owned.sieve.options.items option params answer before.pending after.pending
+  pub only : OnlySends before after
 
 -- bytes that waited to be sent were moved to a buffer
 pub record ReadCall (old_buf new_buf : List ℕ) (count : ℕ) (before after : HeldClient) : Type 0 where
@@ -86,6 +123,7 @@ pub record ReadCall (old_buf new_buf : List ℕ) (count : ℕ) (before after : H
   pub stay : after.pending.items ≡ drop count before.pending.items
   pub end : after.end ≡ before.end
   pub shown : after.shown.items ≡ before.shown.items
+  pub owned : after.owned ≡ before.owned
 
 -- bytes that waited to be shown were moved to a buffer
 pub record ScreenCall (old_buf new_buf : List ℕ) (count : ℕ) (before after : HeldClient) : Type 0 where
@@ -93,6 +131,7 @@ pub record ScreenCall (old_buf new_buf : List ℕ) (count : ℕ) (before after :
   pub stay : after.shown.items ≡ drop count before.shown.items
   pub end : after.end ≡ before.end
   pub pending : after.pending.items ≡ before.pending.items
+  pub owned : after.owned ≡ before.owned
 
 -- The result of a look at a client end stands in the end, and is that of its history.
 pub record GivesHalf (old_buf new_buf : List ℕ) (whole : ℕ) (held : HeldClient) : Type 0 where
@@ -134,3 +173,4 @@ pub record IsOpened (width height limit : ℕ) (held : HeldClient) : Type 0 wher
   pub runs : IsFalse held.end.failed
   pub pending : held.pending.items ≡ []
   pub shown : held.shown.items ≡ []
+  pub owned : OwnsNone held.owned

@@ -21,6 +21,9 @@ code_number code.Taken = 12
 code_number code.NotOn = 13
 code_number code.TooLong = 14
 code_number code.NoCommand = 15
+code_number code.NotOwned = 16
+code_number code.TooLate = 17
+code_number code.ItemsWait = 18
 
 -- A call answered by this number, which is that of a code, of which this is so.
 pub record Answers (number : ℕ) (F : Code → Type 0) : Type 0 where

@@ -6,16 +6,18 @@ use denote.RawPtr.{Ptr}
 use Rattle.tn_codes.specs.{Masks.filled_octets, declared.{codes.Func.Func, masks.Mask.Mask}}
 use Rattle.tn_discipline.specs.{Characters.slot, Canon.Canon}
 use Rattle.tn_nvt.specs.Feeding as nvt
-use Rattle.tn_nvt.specs.{Spelling.spells, Room.LacksRoom}
+use Rattle.tn_nvt.specs.{Spelling.spells, Room.LacksRoom, declared.items.Item.Item}
 use Rattle.tn_pty.specs.Terminal.{fitting_count, queue_symbols}
 use Rattle.tn_server.specs.{Answering.{Feeds, StopsWithin}, Replies.opening, Steps.LacksRoomFor, Terms.chars}
 use Rattle.tn_server.specs.Calls.{End, LeadsTo, call_fault, char_fault_at, mask_fault}
 use Rattle.tn_server.specs.Events.{History, Event, begun, took, pulled, wished, char_set, mask_set}
 use Rattle.tn_server.specs.{Lines.waiting, Steps.{end_after, end_after_write, end_after_pull, says, sends_mode_now}}
+use Rattle.tn_server.specs.Course.{Course, stream}
 use Rattle.tn_server.specs.declared.{faults.ServerFault.ServerFault, wishes.Editing.Editing}
 use Rattle.tn_c.specs.parts.{Bytes.Copies, Changes.IsSeen, Entries.{kind_number, wiped_entry}}
 use Rattle.tn_c.specs.parts.{Readings.char_number, Faults.{server_code, server_refusal}}
-use Rattle.tn_c.specs.declared.parts.{codes.Code.Code, server.HeldServer.HeldServer}
+use Rattle.tn_c.specs.parts.OwnOptions.{Comes, OwnsNone, PutsWord, PutsSub, other_items}
+use Rattle.tn_c.specs.declared.parts.{codes.Code.Code, owned.Owned.Owned, server.HeldServer.HeldServer}
 use Rattle.tn_c.specs.declared.parts.codes.Code.TheVariants as code
 
 -- All that is held is as it was.
@@ -24,6 +26,37 @@ pub record Untouched (old new : HeldServer) : Type 0 where
   pub pending : new.pending.items ≡ old.pending.items
   pub entry : new.entry ≡ old.entry
   pub seen : new.seen ≡ old.seen
+  pub owned : new.owned ≡ old.owned
+
+-- The end is as it was, and so is what waits to be sent.
+pub record Rests (old new : HeldServer) : Type 0 where
+  pub end : new.end ≡ old.end
+  pub pending : new.pending.items ≡ old.pending.items
+
+-- A call about owned options: R of them before and after, and all else is as it was.
+pub record OnOwned (R : Owned → Owned → Type 0) (before after : HeldServer) : Type 0 where
+  pub owned : R before.owned after.owned
+  pub rests : Rests before after
+  pub entry : after.entry ≡ before.entry
+  pub seen : after.seen ≡ before.seen
+
+-- All but what waits to be sent is as it was.
+pub record OnlySends (before after : HeldServer) : Type 0 where
+  pub end : after.end ≡ before.end
+  pub entry : after.entry ≡ before.entry
+  pub seen : after.seen ≡ before.seen
+  pub owned : after.owned ≡ before.owned
+
+-- The call sends an option message of an owned option.
+pub record SayOwnCall (option word : ℕ) (answer : Code) (before after : HeldServer) : Type 0 where
+  pub puts : PutsWord before.owned.sieve.options.items option word answer before.pending after.pending
+  pub only : OnlySends before after
+
+-- The call sends a subnegotiation of an owned option.
+pub record SayOwnSubCall (option : ℕ) (params : List ℕ) (answer : Code) (before after : HeldServer)
+    : Type 0 where
+  pub puts : PutsSub before.owned.sieve.options.items option params answer before.pending after.pending
+  pub only : OnlySends before after
 
 -- A call of the owner, which is this event, and which may be refused for such a cause.
 pub record Acts (e : Event) (cause : End → Option ServerFault) (answer : Code) (before after : HeldServer)
@@ -36,6 +69,7 @@ pub record Acts (e : Event) (cause : End → Option ServerFault) (answer : Code)
   pub full : answer ≡ code.Memory → LacksRoomFor before.end e before.pending
   pub entry : after.entry ≡ before.entry
   pub seen : after.seen ≡ before.seen
+  pub owned : after.owned ≡ before.owned
 
 -- The call requests that one side edit lines.
 pub record WishCall (editing : Editing) (old_sent new_sent : Bool) (answer : Code)
@@ -59,19 +93,23 @@ pub record SetOctetsCall (octets : List ℕ) (answer : Code) (before after : Hel
   pub long : (answer ≡ code.TooLong) ↔ (32 < length octets)
   pub stays : answer ≡ code.TooLong → after ≡ before
 
--- The call takes a piece of the client's stream.
-pub record FeedCall (piece : List ℕ) (answer : Code) (before after : HeldServer) : Type 0 where
-  pub ok : answer ≡ code.Done → Feeds before.end piece before.pending.items after.pending.items after.end
-  pub accepted : answer ≡ code.Done → call_fault before.end ≡ None
-  pub failed : (answer ≡ code.Failed) ↔ IsTrue before.end.failed
-  pub failed_stays : answer ≡ code.Failed → Untouched before after
-  pub halts : answer ≢ code.Done → answer ≢ code.Failed → (f : ServerFault)
-      × (answer ≡ server_code f)
-      × StopsWithin before.end piece f before.pending.items after.pending.items after.end
-  pub err : answer ≢ code.Done → IsTrue after.end.failed
+-- The end takes a piece of the client's stream, and its replies are appended.
+pub record EndTakes (answer : Code) (old new : End) (before after piece : List ℕ) : Type 0 where
+  pub ok : answer ≡ code.Done → Feeds old piece before after new
+  pub accepted : answer ≡ code.Done → call_fault old ≡ None
+  pub failed : (answer ≡ code.Failed) ↔ IsTrue old.failed
+  pub failed_stays : answer ≡ code.Failed → (new ≡ old) × (after ≡ before)
+  pub halts : answer ≢ code.Done → answer ≢ code.Failed
+      → (f : ServerFault) × (answer ≡ server_code f) × StopsWithin old piece f before after new
+  pub err : answer ≢ code.Done → IsTrue new.failed
   pub codes : (answer ≡ code.Done) ⊎ ((answer ≡ code.Memory) ⊎ ((answer ≡ code.Failed)
       ⊎ ((answer ≡ code.TooFarAhead) ⊎ (answer ≡ code.Closed))))
-  pub shut : answer ≡ code.Closed → IsTrue before.end.terminal.closed
+  pub shut : answer ≡ code.Closed → IsTrue old.terminal.closed
+
+-- The call takes a piece of the client's stream: the end gets it without the items of owned options.
+pub record FeedCall (piece : List ℕ) (answer : Code) (before after : HeldServer) : Type 0 where
+  pub comes : Comes piece answer before.owned after.owned before.end.failed
+      (EndTakes answer before.end after.end before.pending.items after.pending.items) (Rests before after)
   pub entry : after.entry ≡ before.entry
   pub seen : after.seen ≡ before.seen
 
@@ -106,6 +144,14 @@ FeedSomeCall bytes old_taken new_taken answer before after =
     TakesNone old_taken new_taken answer before after
     ⊎ TakesFirst bytes old_taken new_taken answer before after
 
+-- These bytes came, and the end has read them by this course: all of them if no option is owned, and else what
+-- they spell without the items of owned options.
+pub record HasCome (came : List ℕ) (c : Course) (held : HeldServer) : Type 0 where
+  pub whole : held.owned.sieve.options.items ≡ [] → stream c ≡ came
+  pub sifted : held.owned.sieve.options.items ≢ []
+      → (read : List Item) × nvt.LeadsTo came read held.owned.decoder
+      × (stream c ≡ spells (other_items held.owned.sieve.options.items read))
+
 -- The call takes the first entry that waits.
 pub record TakeCall (old_kind new_kind : ℕ) (answer : Code) (before after : HeldServer) : Type 0 where
   pub codes : (answer ≡ code.Done) ⊎ (answer ≡ code.Memory)
@@ -114,6 +160,7 @@ pub record TakeCall (old_kind new_kind : ℕ) (answer : Code) (before after : He
   pub entry : answer ≡ code.Done → MatchOption after.entry (before.end.terminal.entries ≡ [])
       (λ e. before.end.terminal.entries ≡ e ∷ after.end.terminal.entries)
   pub seen : after.seen ≡ before.seen
+  pub owned : after.owned ≡ before.owned
   pub kind : answer ≡ code.Done → new_kind ≡ kind_number after.entry
   pub err : answer ≡ code.Memory → Untouched before after
   pub err_kind : answer ≡ code.Memory → new_kind ≡ old_kind
@@ -127,6 +174,7 @@ pub record WriteCall (bytes : List ℕ) (count : ℕ) (before after : HeldServer
   pub pending : after.pending.items ≡ before.pending.items
   pub entry : after.entry ≡ before.entry
   pub seen : after.seen ≡ before.seen
+  pub owned : after.owned ≡ before.owned
 
 -- The call spells symbols of the screen.
 pub record PullCall (max old_count new_count : ℕ) (answer : Code) (before after : HeldServer) : Type 0 where
@@ -137,6 +185,7 @@ pub record PullCall (max old_count new_count : ℕ) (answer : Code) (before afte
   pub counts : answer ≡ code.Done → new_count ≡ min max (length before.end.terminal.queue)
   pub entry : after.entry ≡ before.entry
   pub seen : after.seen ≡ before.seen
+  pub owned : after.owned ≡ before.owned
   pub err : answer ≡ code.Memory → Untouched before after
   pub err_count : answer ≡ code.Memory → new_count ≡ old_count
   pub grows : answer ≡ code.Memory → says before.end (pulled max) ≢ []
@@ -161,6 +210,7 @@ pub record SentCall (count : ℕ) (before after : HeldServer) : Type 0 where
   pub end : after.end ≡ before.end
   pub entry : after.entry ≡ before.entry
   pub seen : after.seen ≡ before.seen
+  pub owned : after.owned ≡ before.owned
 
 -- bytes that waited to be sent were moved to a buffer
 pub record ReadCall (old_buf new_buf : List ℕ) (count : ℕ) (before after : HeldServer) : Type 0 where
@@ -169,6 +219,7 @@ pub record ReadCall (old_buf new_buf : List ℕ) (count : ℕ) (before after : H
   pub end : after.end ≡ before.end
   pub entry : after.entry ≡ before.entry
   pub seen : after.seen ≡ before.seen
+  pub owned : after.owned ≡ before.owned
 
 -- the text that was taken last was wiped
 pub record ForgetCall (before after : HeldServer) : Type 0 where
@@ -176,6 +227,7 @@ pub record ForgetCall (before after : HeldServer) : Type 0 where
   pub pending : after.pending.items ≡ before.pending.items
   pub entry : after.entry ≡ wiped_entry before.entry
   pub seen : after.seen ≡ before.seen
+  pub owned : after.owned ≡ before.owned
 
 -- the number is that of a special character of the server
 abbrev pub IsServerChar : HeldServer → Func → ℕ → Type 0
@@ -191,3 +243,4 @@ pub record IsOpened (canon : Canon) (held : HeldServer) : Type 0 where
   pub pending : held.pending.items ≡ spells opening
   pub entry : held.entry ≡ None
   pub seen : (h : History) → LeadsTo h held.end → IsSeen h held.seen
+  pub owned : OwnsNone held.owned

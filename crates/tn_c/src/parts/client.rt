@@ -1,16 +1,19 @@
 //! A client end, what it has to send, and what it has to show.
 
-ghost use Rattle.std.specs.Prelude.{◌≡◌, ◌≢◌, IfOk, IfErr};
+ghost use Rattle.std.specs.Prelude.{◌≡◌, ◌≢◌, ◌||◌, IfOk, IfErr};
 ghost use Rattle.tn_client.specs.declared.faults.ClientFault.TheVariants as fault;
 ghost use Rattle.tn_c.specs.parts.{Calling.{OfFunction, GivesChar}, Faults.client_answer};
 ghost use Rattle.tn_c.specs.parts.ClientCalls.{KeyCall, FeedCall, ResizeCall, ProposeCall, SendCall};
 ghost use Rattle.tn_c.specs.parts.ClientCalls.{NewLineCall, SendNumberCall, ReadCall, ScreenCall, GivesHalf};
-ghost use Rattle.tn_c.specs.parts.ClientCalls.{GivesCounts, GivesOption, IsClientChar, IsOpened};
+ghost use Rattle.tn_c.specs.parts.ClientCalls.{GivesCounts, GivesOption, IsClientChar, IsOpened, EndTakes};
+ghost use Rattle.tn_c.specs.parts.{ClientCalls.{OnOwned, SayOwnCall, SayOwnSubCall}, OwnOptions.{OwnCall, TakeOwnCall}};
 ghost use Rattle.tn_c.specs.parts.Readings.{char_given};
 ghost use Rattle.tn_c.specs.declared.parts.codes.Code.TheVariants as code;
 
 use crate::parts::bytes::{give, move_front};
 use crate::parts::codes::Code;
+use crate::parts::decoder::ItemSeen;
+use crate::parts::owned::Owned;
 use crate::parts::readings::{char_given, command_given, give_char, side_given, state_number};
 use std::alloc::Global;
 use tn_client::{ClientEnd, ClientFault, UserCommand};
@@ -32,12 +35,21 @@ fn code_of(answer: Result<(), ClientFault>) -> Code
     }
 }
 
+// Feeds a piece to the end; the replies are appended, and so is what is to be shown.
+fn feed_end(end: &mut ClientEnd, piece: &[u8], pending: &mut Vec<u8>, shown: &mut Vec<u8>) -> Code
+    ensures { EndTakes result end.old end.new
+        pending.old.items pending.new.items shown.old.items shown.new.items piece.now }
+{
+    code_of(end.feed(piece, pending, shown))
+}
+
 /// A client end, what it has to send, and what it has to show.
 #[derive(Drop)]
 pub struct HeldClient {
     pub end: ClientEnd,
     pub pending: Vec<u8>,
     pub shown: Vec<u8>,
+    pub owned: Owned,
 }
 
 impl HeldClient {
@@ -60,6 +72,7 @@ impl HeldClient {
             end: ClientEnd::start(alloc, width, height, limit)?,
             pending: Vec::new(alloc),
             shown: Vec::new(alloc),
+            owned: Owned::new(alloc),
         })
     }
 
@@ -78,11 +91,59 @@ impl HeldClient {
     }
 
     /// Takes a piece of the server's stream, cut anywhere: replies are to be sent, text is to be
-    /// shown.
+    /// shown, and the items of owned options wait.
     pub fn feed(&mut self, piece: &[u8]) -> Code
         ensures { FeedCall piece.now result self.old self.new }
     {
-        code_of(self.end.feed(piece, &mut self.pending, &mut self.shown))
+        if self.owned.is_none() {
+            self.owned.fed = true;
+            return feed_end(&mut self.end, piece, &mut self.pending, &mut self.shown);
+        }
+        if self.end.failed() {
+            return Code::Failed;
+        }
+        match self.owned.sift(piece) {
+            Code::Done => {
+                let rest = self.owned.sieve.rest.as_slice();
+                feed_end(&mut self.end, rest, &mut self.pending, &mut self.shown)
+            },
+            refusal => refusal,
+        }
+    }
+
+    /// Owns an option, before anything came: its items wait from then on, and the end gets none of them.
+    pub fn own(&mut self, option: u8) -> Code
+        ensures { OnOwned (OwnCall option result) self.old self.new }
+    {
+        self.owned.own(option)
+    }
+
+    /// Takes the first item of owned options that waits, if there is one.
+    pub fn take_own(&mut self, item: &mut ItemSeen)
+        ensures { OnOwned (TakeOwnCall item.new) self.old self.new }
+    {
+        self.owned.take(item);
+    }
+
+    /// Sends an option message of an owned option, whose verb has this byte.
+    pub fn say_own(&mut self, option: u8, word: u8) -> Code
+        ensures { SayOwnCall option word result self.old self.new }
+    {
+        self.owned.put_word(option, word, &mut self.pending)
+    }
+
+    /// Sends a subnegotiation of an owned option, of at most 512 parameters.
+    pub fn say_own_sub(&mut self, option: u8, params: &[u8]) -> Code
+        ensures { SayOwnSubCall option params.now result self.old self.new }
+    {
+        self.owned.put_sub(option, params, &mut self.pending)
+    }
+
+    /// Returns whether a feed was refused: the end has failed, or the decoder of owned options.
+    pub fn failed(&self) -> bool
+        ensures { result ≡ (self.now.end.failed || self.now.owned.failed) }
+    {
+        self.end.failed() || self.owned.failed
     }
 
     /// Takes a new size of the window, which is to be sent if NAWS is on and the size changed.

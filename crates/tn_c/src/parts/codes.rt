@@ -36,7 +36,8 @@ pub enum Code {
     NoFunction,
     /// The function has no special character.
     NotSettable,
-    /// A line feed, a carriage return and 255 are never special characters.
+    /// A line feed, a carriage return and 255 are never special characters, and the options that the ends negotiate
+    /// are never owned.
     Reserved,
     /// The value is that of another special character.
     Taken,
@@ -46,6 +47,12 @@ pub enum Code {
     TooLong,
     /// The number is that of no command that the call takes, or of no verb of an option message.
     NoCommand,
+    /// The option is not owned.
+    NotOwned,
+    /// A piece came before: an option is owned before that.
+    TooLate,
+    /// 64 items of owned options wait, or more.
+    ItemsWait,
 }
 
 impl Code {
@@ -71,7 +78,10 @@ impl Code {
             Taken = 12,
             NotOn = 13,
             TooLong = 14,
-            NoCommand = 15
+            NoCommand = 15,
+            NotOwned = 16,
+            TooLate = 17,
+            ItemsWait = 18
         )
     }
 }

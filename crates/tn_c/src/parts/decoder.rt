@@ -38,8 +38,8 @@ fn code_of(answer: Result<(), NvtFault>) -> Code
     }
 }
 
-// Returns an item as C sees it.
-fn seen(item: &Option<Item>) -> ItemSeen
+/// Returns an item as C sees it.
+pub(crate) fn seen(item: &Option<Item>) -> ItemSeen
     ensures { result ≡ item_seen item.now }
 {
     let (kind, code, option, length) = match item {
@@ -58,8 +58,8 @@ fn seen(item: &Option<Item>) -> ItemSeen
     }
 }
 
-// Returns the parameters of an item that is a subnegotiation.
-fn parameters(item: &Option<Item>) -> &[u8]
+/// Returns the parameters of an item that is a subnegotiation.
+pub(crate) fn parameters(item: &Option<Item>) -> &[u8]
     ensures { result.now ≡ parameters_of item.now }
 {
     match item {

@@ -1,6 +1,6 @@
 //! A server end, what it has to send, and the entry that was taken last.
 
-ghost use Rattle.std.specs.Prelude.{◌≡◌, ◌≢◌, IfOk, IfErr, slice_get, if◌then◌else◌};
+ghost use Rattle.std.specs.Prelude.{◌≡◌, ◌≢◌, ◌||◌, IfOk, IfErr, slice_get, if◌then◌else◌};
 ghost use Rattle.tn_option.specs.Options.{state_of};
 ghost use Rattle.tn_pty.specs.Terminal.{first_signal};
 ghost use Rattle.tn_server.specs.{Calls.{LeadsTo, call_fault}, Events.{History, echo_set}, Screen.size};
@@ -11,14 +11,17 @@ ghost use Rattle.tn_c.specs.parts.Entries.{kind_number, signal_number, text_of};
 ghost use Rattle.tn_c.specs.parts.ServerCalls.{IsServerChar, IsOpened, FeedCall, FeedSomeCall, TakeCall};
 ghost use Rattle.tn_c.specs.parts.ServerCalls.{ForgetCall, WriteCall, PullCall, ReadCall, SayCall};
 ghost use Rattle.tn_c.specs.parts.ServerCalls.{GivesPending, SentCall, Acts, WishCall, SetCharCall};
-ghost use Rattle.tn_c.specs.parts.ServerCalls.{SetMaskCall, SetOctetsCall};
+ghost use Rattle.tn_c.specs.parts.ServerCalls.{SetMaskCall, SetOctetsCall, EndTakes, OnOwned};
+ghost use Rattle.tn_c.specs.parts.{ServerCalls.{SayOwnCall, SayOwnSubCall}, OwnOptions.{OwnCall, TakeOwnCall}};
 ghost use Rattle.tn_c.specs.parts.Readings.{char_given, editing_given, side_given, state_number};
 ghost use Rattle.tn_c.specs.declared.parts.codes.Code.TheVariants as code;
 
 use crate::parts::bytes::{drop_front, give, move_front};
 use crate::parts::changes::{Seen, change_bits, seen_of};
 use crate::parts::codes::Code;
+use crate::parts::decoder::ItemSeen;
 use crate::parts::entries::{entry_number, entry_text, kind_number, sig_number, text_of, wiped};
+use crate::parts::owned::Owned;
 use crate::parts::readings::{char_given, editing_given, give_char, side_given, state_number};
 use std::alloc::Global;
 use tn_codes::{Func, Mask};
@@ -69,6 +72,13 @@ fn take_none(has_failed: bool, taken: &mut usize) -> Code
     Code::Done
 }
 
+// Feeds a piece to the end; the replies are appended.
+fn feed_end(end: &mut ServerEnd, piece: &[u8], pending: &mut Vec<u8>) -> Code
+    ensures { EndTakes result end.old end.new pending.old.items pending.new.items piece.now }
+{
+    code_of!(end.feed(piece, pending), () => {})
+}
+
 /// A server end, what it has to send, and the entry that was taken last.
 #[derive(Drop)]
 pub struct HeldServer {
@@ -77,6 +87,7 @@ pub struct HeldServer {
     pub entry: Option<Entry>,
     /// The facts of the end at the start, or at the last call of `changes`.
     pub seen: Seen,
+    pub owned: Owned,
 }
 
 impl HeldServer {
@@ -97,14 +108,64 @@ impl HeldServer {
             pending,
             entry: None,
             seen,
+            owned: Owned::new(alloc),
         })
     }
 
-    /// Takes a piece of the client's stream, cut anywhere; the replies are to be sent.
+    /// Takes a piece of the client's stream, cut anywhere; the replies are to be sent, and the items of owned
+    /// options wait.
     pub fn feed(&mut self, piece: &[u8]) -> Code
         ensures { FeedCall piece.now result self.old self.new }
     {
-        code_of!(self.end.feed(piece, &mut self.pending), () => {})
+        if self.owned.is_none() {
+            self.owned.fed = true;
+            return feed_end(&mut self.end, piece, &mut self.pending);
+        }
+        if self.end.failed() {
+            return Code::Failed;
+        }
+        match self.owned.sift(piece) {
+            Code::Done => {
+                let rest = self.owned.sieve.rest.as_slice();
+                feed_end(&mut self.end, rest, &mut self.pending)
+            },
+            refusal => refusal,
+        }
+    }
+
+    /// Owns an option, before anything came: its items wait from then on, and the end gets none of them.
+    pub fn own(&mut self, option: u8) -> Code
+        ensures { OnOwned (OwnCall option result) self.old self.new }
+    {
+        self.owned.own(option)
+    }
+
+    /// Takes the first item of owned options that waits, if there is one.
+    pub fn take_own(&mut self, item: &mut ItemSeen)
+        ensures { OnOwned (TakeOwnCall item.new) self.old self.new }
+    {
+        self.owned.take(item);
+    }
+
+    /// Sends an option message of an owned option, whose verb has this byte.
+    pub fn say_own(&mut self, option: u8, word: u8) -> Code
+        ensures { SayOwnCall option word result self.old self.new }
+    {
+        self.owned.put_word(option, word, &mut self.pending)
+    }
+
+    /// Sends a subnegotiation of an owned option, of at most 512 parameters.
+    pub fn say_own_sub(&mut self, option: u8, params: &[u8]) -> Code
+        ensures { SayOwnSubCall option params.now result self.old self.new }
+    {
+        self.owned.put_sub(option, params, &mut self.pending)
+    }
+
+    /// Returns whether a feed was refused: the end has failed, or the decoder of owned options.
+    pub fn failed(&self) -> bool
+        ensures { result ≡ (self.now.end.failed || self.now.owned.failed) }
+    {
+        self.end.failed() || self.owned.failed
     }
 
     /// Takes the first bytes of the client's stream, as many as cannot make more entries than may

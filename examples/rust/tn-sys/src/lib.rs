@@ -40,6 +40,9 @@ pub const TN_TAKEN: tn_code = 12;
 pub const TN_NOT_ON: tn_code = 13;
 pub const TN_TOO_LONG: tn_code = 14;
 pub const TN_NO_COMMAND: tn_code = 15;
+pub const TN_NOT_OWNED: tn_code = 16;
+pub const TN_TOO_LATE: tn_code = 17;
+pub const TN_ITEMS_WAIT: tn_code = 18;
 
 pub const TN_BAD_LIMIT: tn_code = TN_NO_LIMIT;
 pub const TN_BAD_FUNCTION: tn_code = TN_NO_FUNCTION;
@@ -188,6 +191,11 @@ extern "C" {
     pub fn tn_server_char(server: *const tn_server, function: u8, value: *mut u16) -> tn_code;
     pub fn tn_server_option(server: *const tn_server, ours: bool, option: u8, state: *mut tn_option_state) -> tn_code;
     pub fn tn_server_failed(server: *const tn_server, failed: *mut bool) -> tn_code;
+    pub fn tn_server_own(server: *mut tn_server, option: u8) -> tn_code;
+    pub fn tn_server_take_own(server: *mut tn_server, item: *mut tn_item) -> tn_code;
+    pub fn tn_server_own_parameters(server: *const tn_server, buf: *mut u8, size: usize, length: *mut usize) -> tn_code;
+    pub fn tn_server_say_own(server: *mut tn_server, option: u8, word: u8) -> tn_code;
+    pub fn tn_server_say_own_sub(server: *mut tn_server, option: u8, parameters: *const u8, count: usize) -> tn_code;
     pub fn tn_client_start(client: *mut tn_client, width: u16, height: u16, limit: u16) -> tn_code;
     pub fn tn_client_key(client: *mut tn_client, key: u8) -> tn_code;
     pub fn tn_client_new_line(client: *mut tn_client) -> tn_code;
@@ -206,4 +214,9 @@ extern "C" {
     pub fn tn_client_char(client: *const tn_client, function: u8, value: *mut u16) -> tn_code;
     pub fn tn_client_option(client: *const tn_client, ours: bool, option: u8, state: *mut tn_option_state) -> tn_code;
     pub fn tn_client_failed(client: *const tn_client, failed: *mut bool) -> tn_code;
+    pub fn tn_client_own(client: *mut tn_client, option: u8) -> tn_code;
+    pub fn tn_client_take_own(client: *mut tn_client, item: *mut tn_item) -> tn_code;
+    pub fn tn_client_own_parameters(client: *const tn_client, buf: *mut u8, size: usize, length: *mut usize) -> tn_code;
+    pub fn tn_client_say_own(client: *mut tn_client, option: u8, word: u8) -> tn_code;
+    pub fn tn_client_say_own_sub(client: *mut tn_client, option: u8, parameters: *const u8, count: usize) -> tn_code;
 }

@@ -139,6 +139,18 @@ pub enum Item {
     Sub(u8, Vec<u8>),
 }
 
+/// Returns the item that a call took, with the parameters that another copies.
+fn given(item: raw::tn_item, parameters: impl FnOnce(*mut u8, usize, &mut usize) -> u32) -> Result<Option<Item>> {
+    Ok(match item.kind {
+        raw::TN_BYTE => Some(Item::Byte(item.code)),
+        raw::TN_NEWLINE => Some(Item::Newline),
+        raw::TN_COMMAND => Some(Item::Command(item.code)),
+        raw::TN_WORD => Some(Item::Word(item.code, item.option)),
+        raw::TN_SUBNEGOTIATION => Some(Item::Sub(item.option, bytes(item.length, parameters)?)),
+        _ => None,
+    })
+}
+
 /// Spells an item as a decoder reads it.
 pub fn spelled(item: &Item) -> Result<Vec<u8>> {
     match item {
@@ -190,11 +202,11 @@ held!(
 );
 held!(
     /// A server end, with its terminal.
-    Server { limit: u16, taken: VecDeque<Entry> } of tn_server, tn_server_free
+    Server { limit: u16, taken: VecDeque<Entry>, items: VecDeque<Item> } of tn_server, tn_server_free
 );
 held!(
     /// A client end.
-    Client { limit: u16 } of tn_client, tn_client_free
+    Client { limit: u16, items: VecDeque<Item> } of tn_client, tn_client_free
 );
 
 impl Line {
@@ -258,22 +270,8 @@ impl Decoder {
 
     /// Takes the first item, if one waits.
     pub fn take(&mut self) -> Result<Option<Item>> {
-        let mut item = raw::tn_item { kind: raw::TN_NO_ITEM, code: 0, option: 0, length: 0 };
-        done(unsafe { raw::tn_decoder_take(&mut self.held, &mut item) })?;
-        Ok(match item.kind {
-            raw::TN_BYTE => Some(Item::Byte(item.code)),
-            raw::TN_NEWLINE => Some(Item::Newline),
-            raw::TN_COMMAND => Some(Item::Command(item.code)),
-            raw::TN_WORD => Some(Item::Word(item.code, item.option)),
-            raw::TN_SUBNEGOTIATION => {
-                let held: *const raw::tn_decoder = &self.held;
-                Some(Item::Sub(
-                    item.option,
-                    bytes(item.length, |buf, size, count| unsafe { raw::tn_decoder_parameters(held, buf, size, count) })?,
-                ))
-            },
-            _ => None,
-        })
+        let item = value(|item| unsafe { raw::tn_decoder_take(&mut self.held, item) })?;
+        given(item, |buf, size, count| unsafe { raw::tn_decoder_parameters(&self.held, buf, size, count) })
     }
 }
 
@@ -281,14 +279,20 @@ impl Server {
     pub fn start(flags: &Flags, limit: u16) -> Result<Server> {
         let mut held = raw::tn_server { tn_private: std::ptr::null_mut() };
         done(unsafe { raw::tn_server_start(&mut held, flags, limit) })?;
-        Ok(Server { held, limit, taken: VecDeque::new() })
+        Ok(Server { held, limit, taken: VecDeque::new(), items: VecDeque::new() })
     }
 
-    /// Takes bytes that came from the client, cut anywhere and as many as there are: entries beyond those that may wait are kept in this
-    /// object.
+    /// Takes bytes that came from the client, cut anywhere and as many as there are: entries and items of owned options beyond those that
+    /// may wait are kept in this object.
     pub fn feed(&mut self, mut piece: &[u8]) -> Result<()> {
         loop {
-            let taken = self.feed_some(piece)?;
+            let taken = match self.feed_some(piece) {
+                Ok(taken) => taken,
+                Err(refused) => {
+                    self.make_room(refused)?;
+                    continue;
+                },
+            };
             piece = &piece[taken..];
             if piece.is_empty() {
                 return Ok(());
@@ -455,13 +459,52 @@ impl Server {
     pub fn failed(&self) -> Result<bool> {
         value(|failed| unsafe { raw::tn_server_failed(&self.held, failed) })
     }
+
+    /// Owns an option, before anything is fed: the end no longer refuses it, and its items wait for `take_own`.
+    pub fn own(&mut self, option: u8) -> Result<()> {
+        done(unsafe { raw::tn_server_own(&mut self.held, option) })
+    }
+
+    fn take_held_own(&mut self) -> Result<Option<Item>> {
+        let item = value(|item| unsafe { raw::tn_server_take_own(&mut self.held, item) })?;
+        given(item, |buf, size, count| unsafe { raw::tn_server_own_parameters(&self.held, buf, size, count) })
+    }
+
+    /// Takes the first item of owned options, if one waits.
+    pub fn take_own(&mut self) -> Result<Option<Item>> {
+        match self.items.pop_front() {
+            Some(item) => Ok(Some(item)),
+            None => self.take_held_own(),
+        }
+    }
+
+    /// Makes room for items of owned options, if that is why a feed was refused; any other refusal is returned.
+    fn make_room(&mut self, refused: Refused) -> Result<()> {
+        if refused != Refused(raw::TN_ITEMS_WAIT) {
+            return Err(refused);
+        }
+        while let Some(item) = self.take_held_own()? {
+            self.items.push_back(item);
+        }
+        Ok(())
+    }
+
+    /// Sends an option message of an owned option, whose word is 251 WILL to 254 DONT.
+    pub fn say_own(&mut self, option: u8, word: u8) -> Result<()> {
+        done(unsafe { raw::tn_server_say_own(&mut self.held, option, word) })
+    }
+
+    /// Sends a subnegotiation of an owned option, of at most 512 parameters.
+    pub fn say_own_sub(&mut self, option: u8, parameters: &[u8]) -> Result<()> {
+        done(unsafe { raw::tn_server_say_own_sub(&mut self.held, option, parameters.as_ptr(), parameters.len()) })
+    }
 }
 
 impl Client {
     pub fn start(width: u16, height: u16, limit: u16) -> Result<Client> {
         let mut held = raw::tn_client { tn_private: std::ptr::null_mut() };
         done(unsafe { raw::tn_client_start(&mut held, width, height, limit) })?;
-        Ok(Client { held, limit })
+        Ok(Client { held, limit, items: VecDeque::new() })
     }
 
     pub fn key(&mut self, key: u8) -> Result<()> {
@@ -473,9 +516,12 @@ impl Client {
         done(unsafe { raw::tn_client_new_line(&mut self.held) })
     }
 
-    /// Takes bytes that came from the server, cut anywhere.
+    /// Takes bytes that came from the server, cut anywhere: items of owned options beyond those that may wait are kept in this object.
     pub fn feed(&mut self, piece: &[u8]) -> Result<()> {
-        done(unsafe { raw::tn_client_feed(&mut self.held, piece.as_ptr(), piece.len()) })
+        while let Err(refused) = done(unsafe { raw::tn_client_feed(&mut self.held, piece.as_ptr(), piece.len()) }) {
+            self.make_room(refused)?;
+        }
+        Ok(())
     }
 
     pub fn pending(&self) -> Result<usize> {
@@ -539,6 +585,45 @@ impl Client {
 
     pub fn failed(&self) -> Result<bool> {
         value(|failed| unsafe { raw::tn_client_failed(&self.held, failed) })
+    }
+
+    /// Owns an option, before anything is fed: the end no longer refuses it, and its items wait for `take_own`.
+    pub fn own(&mut self, option: u8) -> Result<()> {
+        done(unsafe { raw::tn_client_own(&mut self.held, option) })
+    }
+
+    fn take_held_own(&mut self) -> Result<Option<Item>> {
+        let item = value(|item| unsafe { raw::tn_client_take_own(&mut self.held, item) })?;
+        given(item, |buf, size, count| unsafe { raw::tn_client_own_parameters(&self.held, buf, size, count) })
+    }
+
+    /// Takes the first item of owned options, if one waits.
+    pub fn take_own(&mut self) -> Result<Option<Item>> {
+        match self.items.pop_front() {
+            Some(item) => Ok(Some(item)),
+            None => self.take_held_own(),
+        }
+    }
+
+    /// Makes room for items of owned options, if that is why a feed was refused; any other refusal is returned.
+    fn make_room(&mut self, refused: Refused) -> Result<()> {
+        if refused != Refused(raw::TN_ITEMS_WAIT) {
+            return Err(refused);
+        }
+        while let Some(item) = self.take_held_own()? {
+            self.items.push_back(item);
+        }
+        Ok(())
+    }
+
+    /// Sends an option message of an owned option, whose word is 251 WILL to 254 DONT.
+    pub fn say_own(&mut self, option: u8, word: u8) -> Result<()> {
+        done(unsafe { raw::tn_client_say_own(&mut self.held, option, word) })
+    }
+
+    /// Sends a subnegotiation of an owned option, of at most 512 parameters.
+    pub fn say_own_sub(&mut self, option: u8, parameters: &[u8]) -> Result<()> {
+        done(unsafe { raw::tn_client_say_own_sub(&mut self.held, option, parameters.as_ptr(), parameters.len()) })
     }
 }
 

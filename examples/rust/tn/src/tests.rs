@@ -108,3 +108,33 @@ fn a_line_and_a_decoder() -> Result<()> {
     assert_eq!(decoder.take()?, Some(Item::Newline));
     Ok(())
 }
+
+#[test]
+fn options_of_ones_own_wait() -> Result<()> {
+    let (mut server, mut client) = (Server::start(&STANDARD_FLAGS, 255)?, Client::start(80, 24, 255)?);
+    server.own(201)?;
+    client.own(201)?;
+    assert_eq!((server.own(34), client.say_own(70, 253)), (Err(Refused(raw::TN_RESERVED)), Err(Refused(raw::TN_NOT_OWNED))));
+    deliver(&mut server, &mut client)?;
+    assert_eq!((client.own(70), server.take_own()?), (Err(Refused(raw::TN_TOO_LATE)), None));
+    client.say_own(201, 253)?;
+    client.say_own_sub(201, b"Core.Hello \xff")?;
+    server.feed(&client.read()?)?;
+    assert_eq!((server.take_own()?, server.take_own()?), (Some(Item::Word(253, 201)), Some(Item::Sub(201, b"Core.Hello \xff".to_vec()))));
+    server.say_own(201, 251)?;
+    server.say_own_sub(201, b"x")?;
+    client.feed(&server.read()?)?;
+    assert_eq!((client.take_own()?, client.take_own()?), (Some(Item::Word(251, 201)), Some(Item::Sub(201, b"x".to_vec()))));
+    server.feed(&[255, 253, 201].repeat(300))?;
+    for _ in 0..65 {
+        client.feed(&[255, 251, 201])?;
+    }
+    for _ in 0..300 {
+        assert_eq!(server.take_own()?, Some(Item::Word(253, 201)));
+    }
+    for _ in 0..65 {
+        assert_eq!(client.take_own()?, Some(Item::Word(251, 201)));
+    }
+    assert_eq!((server.take_own()?, client.take_own()?), (None, None));
+    Ok(())
+}

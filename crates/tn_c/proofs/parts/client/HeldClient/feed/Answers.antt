@@ -1,19 +1,37 @@
-use Rattle.tn_client.specs.{Calls.call_fault, declared.faults.ClientFault.TheVariants.{Failed, Memory}}
-use Rattle.tn_c.proofs.of_parts.Refusing.{when_done, unless_done, for_fault, as_caused}
+use Rattle.std.proofs.Common.{ℕ, List, inl, inr, refl, sym, subst, ◌∙◌}
+use Rattle.tn_c.specs.{parts.{ClientCalls.EndTakes, OwnOptions.SiftCall}, declared.parts.codes.Code.Code}
+use Rattle.tn_c.proofs.of_parts.Sifting.{tells_not}
 use Rattle.tn_c.proofs.parts.client.HeldClient.feed.Goals as goal
 
-pub returns : goal.returns
-returns c =
-    let told = c.feed.ensures in
-    let is = c.code_of.ensures in
-    let by = as_caused (call_fault c.args.self.now.end) c.feed.result c.code_of.result is told.failed in
-    record {
-      feeds = when_done c.feed.result c.code_of.result is told.ok;
-      accepted = by.0;
-      refused = by.1;
-      memory = for_fault Memory c.feed.result c.code_of.result is told.memory;
-      err = unless_done c.feed.result c.code_of.result is told.err;
-      failed = λ e.
-          let same = for_fault Failed c.feed.result c.code_of.result is told.again e in
-          record { end = same.end; pending = same.out; shown = same.screen };
-    }
+pub returns-then-is_none : goal.returns-then-is_none
+returns-then-is_none c =
+    inl (record { none = c.is_none.ensures.0 c.if-is_none.true; takes = c.feed_end.ensures; owned = refl })
+
+pub returns-then-failed : goal.returns-then-failed
+returns-then-failed c =
+    inr (inl (record {
+      owns = tells_not c.is_none.result c.is_none.ensures c.if-is_none.false;
+      refused = λ e. absurd (cc);
+      rests = record { end = refl; pending = refl; shown = refl };
+      cause = inl (sym c.failed.ensures ∙ c.if-failed.true, refl, refl);
+    }))
+
+pub returns-in-Done : goal.returns-in-Done
+returns-in-Done c =
+    inr (inr (record {
+      owns = tells_not c.is_none.result c.is_none.ensures c.if-is_none.false;
+      runs = sym c.failed.ensures ∙ c.if-failed.false;
+      sifts = subst (λ (answer : Code). SiftCall c.args.piece.now answer c.args.self.now.owned c.sift.new.self) c.in-Done.is c.sift.ensures;
+      takes = subst (λ (piece : List ℕ). EndTakes c.feed_end-in-Done.result c.args.self.now.end c.feed_end-in-Done.new.end c.args.self.now.pending.items c.feed_end-in-Done.new.pending.items c.args.self.now.shown.items
+          c.feed_end-in-Done.new.shown.items piece)
+          c.as_slice-rest.ensures.value c.feed_end-in-Done.ensures;
+    }))
+
+pub returns-in_default : goal.returns-in_default
+returns-in_default c =
+    inr (inl (record {
+      owns = tells_not c.is_none.result c.is_none.ensures c.if-is_none.false;
+      refused = c.in_default.not-Done;
+      rests = record { end = refl; pending = refl; shown = refl };
+      cause = inr (sym c.failed.ensures ∙ c.if-failed.false, c.sift.ensures);
+    }))

@@ -9,7 +9,7 @@ returns-clause-call c =
     let is = c.code_of.ensures in
     record {
       acts = call_acts (proposed c.args.func c.args.value) (λ (end : End). propose_fault end c.args.func c.args.value) c.propose.result c.code_of.result _ _
-          is told.step told.out told.failed told.err (λ _. refl);
+          is told.step told.out told.failed told.err (λ _. refl) refl;
       memory = for_fault Memory c.propose.result c.code_of.result is told.memory;
       shown = refl;
     }

@@ -8,7 +8,7 @@ returns c =
     let told = c.resize.ensures in
     let is = c.code_of.ensures in
     record {
-      acts = call_acts (resized c.args.width c.args.height) call_fault c.resize.result c.code_of.result _ _ is told.step told.out told.failed told.err (λ _. refl);
+      acts = call_acts (resized c.args.width c.args.height) call_fault c.resize.result c.code_of.result _ _ is told.step told.out told.failed told.err (λ _. refl) refl;
       memory = for_fault Memory c.resize.result c.code_of.result is told.memory;
       shown = refl;
     }

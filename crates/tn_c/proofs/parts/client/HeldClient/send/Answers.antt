@@ -8,7 +8,7 @@ returns-clause-call c =
     let told = c.send.ensures in
     let is = c.code_of.ensures in
     record {
-      acts = call_acts (sent c.args.command) call_fault c.send.result c.code_of.result _ _ is told.step told.out told.failed told.err (λ _. refl);
+      acts = call_acts (sent c.args.command) call_fault c.send.result c.code_of.result _ _ is told.step told.out told.failed told.err (λ _. refl) refl;
       memory = for_fault Memory c.send.result c.code_of.result is told.memory;
       shown = refl;
     }

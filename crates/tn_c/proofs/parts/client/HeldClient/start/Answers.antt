@@ -8,4 +8,5 @@ returns-clause-ok c =
       runs = c.in_ok-start.ensures.runs;
       pending = c.new.ensures.items;
       shown = c.new-2.ensures.items;
+      owned = c.new-3.ensures;
     }

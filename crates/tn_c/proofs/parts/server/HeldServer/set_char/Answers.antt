@@ -18,6 +18,7 @@ returns-in-Ok-clause-call c =
       full = search rules;
       entry = refl;
       seen = refl;
+      owned = refl;
     }
 
 pub returns-in-Err-Memory-clause-call : goal.returns-in-Err-Memory-clause-call
@@ -32,6 +33,7 @@ returns-in-Err-Memory-clause-call c =
       full = search rules;
       entry = search rules;
       seen = search rules;
+      owned = search rules;
     }
 
 pub returns-in-Err-Failed-clause-call : goal.returns-in-Err-Failed-clause-call
@@ -46,6 +48,7 @@ returns-in-Err-Failed-clause-call c =
       full = search rules;
       entry = search rules;
       seen = search rules;
+      owned = search rules;
     }
 
 pub returns-in-Err-NotOn-clause-call : goal.returns-in-Err-NotOn-clause-call
@@ -60,6 +63,7 @@ returns-in-Err-NotOn-clause-call c =
       full = search rules;
       entry = search rules;
       seen = search rules;
+      owned = search rules;
     }
 
 pub returns-in-Err-Pty-TooFarAhead-clause-call : goal.returns-in-Err-Pty-TooFarAhead-clause-call
@@ -74,6 +78,7 @@ returns-in-Err-Pty-TooFarAhead-clause-call c =
       full = search rules;
       entry = search rules;
       seen = search rules;
+      owned = search rules;
     }
 
 pub returns-in-Err-Pty-Memory-clause-call : goal.returns-in-Err-Pty-Memory-clause-call
@@ -90,6 +95,7 @@ returns-in-Err-Pty-Memory-clause-call c =
           c.in-Err-Pty-Memory.field-0-0 c.in-Err-Pty-Memory.field-0-is c.in-Err-Pty-Memory.ensures.fault);
       entry = search rules;
       seen = search rules;
+      owned = search rules;
     }
 
 pub returns-in-Err-Pty-Closed-clause-call : goal.returns-in-Err-Pty-Closed-clause-call
@@ -104,6 +110,7 @@ returns-in-Err-Pty-Closed-clause-call c =
       full = search rules;
       entry = search rules;
       seen = search rules;
+      owned = search rules;
     }
 
 pub returns-in-Err-Char-NotSettable-clause-call : goal.returns-in-Err-Char-NotSettable-clause-call
@@ -118,6 +125,7 @@ returns-in-Err-Char-NotSettable-clause-call c =
       full = search rules;
       entry = search rules;
       seen = search rules;
+      owned = search rules;
     }
 
 pub returns-in-Err-Char-Reserved-clause-call : goal.returns-in-Err-Char-Reserved-clause-call
@@ -132,6 +140,7 @@ returns-in-Err-Char-Reserved-clause-call c =
       full = search rules;
       entry = search rules;
       seen = search rules;
+      owned = search rules;
     }
 
 pub returns-in-Err-Char-Taken-clause-call : goal.returns-in-Err-Char-Taken-clause-call
@@ -146,4 +155,5 @@ returns-in-Err-Char-Taken-clause-call c =
       full = search rules;
       entry = search rules;
       seen = search rules;
+      owned = search rules;
     }

@@ -12,4 +12,5 @@ returns-in-Ok c =
       full = search rules;
       entry = refl;
       seen = refl;
+      owned = refl;
     }

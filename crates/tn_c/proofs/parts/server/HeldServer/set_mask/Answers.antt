@@ -12,6 +12,7 @@ returns-in-Ok-clause-call c =
       full = search rules;
       entry = refl;
       seen = refl;
+      owned = refl;
     }
 
 pub returns-in-Err-Memory-clause-call : goal.returns-in-Err-Memory-clause-call
@@ -25,4 +26,5 @@ returns-in-Err-Memory-clause-call c =
       full = λ _. c.in-Err-Memory.ensures.full (ap Err c.in-Err-Memory.field-0-is);
       entry = search rules;
       seen = search rules;
+      owned = search rules;
     }

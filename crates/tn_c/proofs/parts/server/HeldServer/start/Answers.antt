@@ -11,4 +11,5 @@ returns-clause-ok c =
       pending = search rules;
       entry = refl;
       seen = c.seen_of-seen.ensures;
+      owned = c.new.ensures;
     }

@@ -9,6 +9,7 @@ returns-in-Ok c =
       sends = λ _. c.in-Ok.ensures.out;
       entry = λ _. c.in-Ok.ensures.entry;
       seen = refl;
+      owned = refl;
       kind = λ _. c.kind_number.ensures;
       err = search rules;
       err_kind = search rules;

@@ -13,6 +13,7 @@ returns-in-Ok c =
         full = search rules;
         entry = refl;
         seen = refl;
+        owned = refl;
       };
       sent = λ _. c.in-Ok.ensures.sent;
       unsent = search rules;
