@@ -13,8 +13,8 @@ use Rattle.tn_server.specs.{Lines.waiting, Steps.end_after_items, declared.fault
 use Rattle.tn_server.specs.Calls as server
 use Rattle.tn_server.specs.declared.faults.ServerFault.TheVariants as fault
 use Rattle.tn_server.proofs.lemmas.{Room.{completes_few, waits_few}, Stopping.{has_read, many_wait}}
-use Rattle.tn_c.specs.{parts.{Faults.server_code, ServerCalls.{FeedSomeCall, EndTakes, HasCome, most_taken}}, declared.parts.{codes.Code.Code, server.HeldServer.HeldServer}}
-use Rattle.tn_c.specs.parts.OwnOptions.{is_own, other_items, SiftCall, Sifts}
+use Rattle.tn_c.specs.{parts.{Faults.server_code, ServerCalls.{FeedSomeCall, EndTakes, most_taken}}, declared.parts.{codes.Code.Code, server.HeldServer.HeldServer}}
+use Rattle.tn_c.specs.parts.OwnOptions.{is_own, other_items, HasCome, SiftCall, Sifts}
 use Rattle.tn_c.specs.declared.parts.codes.Code.TheVariants as code
 
 -- a piece that is short enough is refused for another cause if few entries wait
@@ -137,7 +137,7 @@ others_fit c came piece out_before out_after read before after bytes a leads str
 -- A CALL
 
 pub some_fit : FindsRoom → (c : Course) (came bytes : List ℕ) (old_taken new_taken : ℕ) (answer : Code) (before after : HeldServer)
-    → All (λ b. b < 256) came → HasCome came c before → CourseLeadsTo c before.end → FeedSomeCall bytes old_taken new_taken answer before after
+    → All (λ b. b < 256) came → HasCome came (stream c) before.owned → CourseLeadsTo c before.end → FeedSomeCall bytes old_taken new_taken answer before after
     → answer ≢ code.TooFarAhead
 some_fit room c came bytes old_taken new_taken answer before after small has leads (inl none) = λ is. none_ahead before.end.failed (sym is ∙ none.answers)
 some_fit room c came bytes old_taken new_taken answer before after small has leads (inr first) = λ is.

@@ -125,15 +125,16 @@ starved_options old piece empty new s = options_stay empty (calls_of s.parts) ne
 
 pub sift_done : (old new : Owned) (empty : Sieve) (piece : List ℕ) → length old.sieve.waiting.items < 64 → empty.options.items ≡ old.sieve.options.items
     → empty.waiting.items ≡ old.sieve.waiting.items → empty.rest.items ≡ [] → FeedsTo Sieves old.decoder piece empty new.sieve new.decoder
-    → IsTrue new.fed → new.item ≡ old.item → new.failed ≡ old.failed → SiftCall piece code.Done old new
-sift_done old new empty piece few options waiting none feeds fed item still =
+    → IsTrue new.fed → new.item ≡ old.item → new.failed ≡ old.failed → (old.decoder ≡ failed → ⊥) → SiftCall piece code.Done old new
+sift_done old new empty piece few options waiting none feeds fed item still runs =
     record {
       codes = inl refl;
       waits = (λ e. absurd (cc), λ many. absurd (omega (arith, few, many)));
       waits_stay = λ e. absurd (cc);
       ok = λ _. sifted old new empty piece options waiting none feeds still;
       memory = λ e. absurd (cc);
-      had_failed = λ e. absurd (cc);
+      reads_no_more = λ _. (λ e. absurd (cc), λ is. absurd (runs is));
+      failed_waiting = λ e. absurd (cc);
       fails = λ other _. absurd (other refl);
       fed = λ _. fed;
       options = options_stay empty (calls_of feeds.parts) new.sieve feeds.taken ∙ options;
@@ -148,15 +149,16 @@ stops_options old piece empty new (inr s) = starved_options old piece empty new 
 pub sift_stops : (old new : Owned) (empty : Sieve) (piece : List ℕ) → length old.sieve.waiting.items < 64 → empty.options.items ≡ old.sieve.options.items
     → empty.waiting.items ≡ old.sieve.waiting.items → empty.rest.items ≡ []
     → StopsAtSink Sieves SievesNone old.decoder piece empty new.sieve ⊎ StopsForMemory Sieves old.decoder piece empty new.sieve
-    → new.decoder ≡ failed → IsTrue new.fed → new.item ≡ old.item → IsTrue new.failed → SiftCall piece code.Memory old new
-sift_stops old new empty piece few options waiting none stops gone fed item fails =
+    → new.decoder ≡ failed → IsTrue new.fed → new.item ≡ old.item → IsTrue new.failed → (old.decoder ≡ failed → ⊥) → SiftCall piece code.Memory old new
+sift_stops old new empty piece few options waiting none stops gone fed item fails runs =
     record {
       codes = inr (inl refl);
       waits = (λ e. absurd (cc), λ many. absurd (omega (arith, few, many)));
       waits_stay = λ e. absurd (cc);
       ok = λ e. absurd (cc);
       memory = λ _. record { empty = empty; options = options; waiting = waiting; rest = none; stops = stops };
-      had_failed = λ e. absurd (cc);
+      reads_no_more = λ _. (λ e. absurd (cc), λ is. absurd (runs is));
+      failed_waiting = λ e. absurd (cc);
       fails = λ _ _. (gone, fails);
       fed = λ _. fed;
       options = stops_options old.decoder piece empty new.sieve stops ∙ options;
@@ -164,16 +166,17 @@ sift_stops old new empty piece few options waiting none stops gone fed item fail
     }
 
 pub sift_fails : (old new : Owned) (empty : Sieve) (piece : List ℕ) → length old.sieve.waiting.items < 64 → empty.options.items ≡ old.sieve.options.items
-    → new.sieve ≡ empty → old.decoder ≡ failed → new.decoder ≡ failed → IsTrue new.fed → new.item ≡ old.item → IsTrue new.failed
+    → empty.waiting.items ≡ old.sieve.waiting.items → new.sieve ≡ empty → old.decoder ≡ failed → new.decoder ≡ failed → IsTrue new.fed → new.item ≡ old.item → IsTrue new.failed
     → SiftCall piece code.Failed old new
-sift_fails old new empty piece few options same had gone fed item fails =
+sift_fails old new empty piece few options waiting same had gone fed item fails =
     record {
       codes = inr (inr (inl refl));
       waits = (λ e. absurd (cc), λ many. absurd (omega (arith, few, many)));
       waits_stay = λ e. absurd (cc);
       ok = λ e. absurd (cc);
       memory = λ e. absurd (cc);
-      had_failed = λ _. had;
+      reads_no_more = λ _. (λ _. had, λ _. refl);
+      failed_waiting = λ _. ap (λ (x : Sieve). x.waiting.items) same ∙ waiting;
       fails = λ _ _. (gone, fails);
       fed = λ _. fed;
       options = ap (λ (s : Sieve). s.options.items) same ∙ options;

@@ -104,7 +104,8 @@ pub record SiftCall (piece : List ℕ) (answer : Code) (before after : Owned) : 
   pub waits_stay : answer ≡ code.ItemsWait → after ≡ before
   pub ok : answer ≡ code.Done → Sifts piece before after
   pub memory : answer ≡ code.Memory → SiftsNoMore piece before after
-  pub had_failed : answer ≡ code.Failed → before.decoder ≡ failed
+  pub reads_no_more : answer ≢ code.ItemsWait → (answer ≡ code.Failed) ↔ (before.decoder ≡ failed)
+  pub failed_waiting : answer ≡ code.Failed → after.sieve.waiting.items ≡ before.sieve.waiting.items
   pub fails : answer ≢ code.Done → answer ≢ code.ItemsWait → (after.decoder ≡ failed) × IsTrue after.failed
   pub fed : answer ≢ code.ItemsWait → IsTrue after.fed
   pub options : after.sieve.options.items ≡ before.sieve.options.items
@@ -139,6 +140,13 @@ abbrev pub Comes : List ℕ → Code → Owned → Owned → Bool → (List ℕ 
 Comes piece answer before after has_failed Takes Rests =
     TakesWhole piece before after Takes
     ⊎ (HoldsUp piece answer before after has_failed Rests ⊎ TakesRest piece before after has_failed Takes)
+
+-- These bytes came, and these passed to the end: all of them if no option is owned, and else the spelling of
+-- their items without those of owned options.
+pub record HasCome (came passed : List ℕ) (owned : Owned) : Type 0 where
+  pub whole : owned.sieve.options.items ≡ [] → passed ≡ came
+  pub sifted : owned.sieve.options.items ≢ [] → (read : List Item) × LeadsTo came read owned.decoder
+      × (passed ≡ spells (other_items owned.sieve.options.items read))
 
 -- The call takes the first item of owned options that waits.
 pub record TakeOwnCall (seen : ItemSeen) (before after : Owned) : Type 0 where

@@ -6,17 +6,16 @@ use denote.RawPtr.{Ptr}
 use Rattle.tn_codes.specs.{Masks.filled_octets, declared.{codes.Func.Func, masks.Mask.Mask}}
 use Rattle.tn_discipline.specs.{Characters.slot, Canon.Canon}
 use Rattle.tn_nvt.specs.Feeding as nvt
-use Rattle.tn_nvt.specs.{Spelling.spells, Room.LacksRoom, declared.items.Item.Item}
+use Rattle.tn_nvt.specs.{Spelling.spells, Room.LacksRoom}
 use Rattle.tn_pty.specs.Terminal.{fitting_count, queue_symbols}
 use Rattle.tn_server.specs.{Answering.{Feeds, StopsWithin}, Replies.opening, Steps.LacksRoomFor, Terms.chars}
 use Rattle.tn_server.specs.Calls.{End, LeadsTo, call_fault, char_fault_at, mask_fault}
 use Rattle.tn_server.specs.Events.{History, Event, begun, took, pulled, wished, char_set, mask_set}
 use Rattle.tn_server.specs.{Lines.waiting, Steps.{end_after, end_after_write, end_after_pull, says, sends_mode_now}}
-use Rattle.tn_server.specs.Course.{Course, stream}
 use Rattle.tn_server.specs.declared.{faults.ServerFault.ServerFault, wishes.Editing.Editing}
 use Rattle.tn_c.specs.parts.{Bytes.Copies, Changes.IsSeen, Entries.{kind_number, wiped_entry}}
 use Rattle.tn_c.specs.parts.{Readings.char_number, Faults.{server_code, server_refusal}}
-use Rattle.tn_c.specs.parts.OwnOptions.{Comes, OwnsNone, PutsWord, PutsSub, other_items}
+use Rattle.tn_c.specs.parts.OwnOptions.{Comes, OwnsNone, PutsWord, PutsSub}
 use Rattle.tn_c.specs.declared.parts.{codes.Code.Code, owned.Owned.Owned, server.HeldServer.HeldServer}
 use Rattle.tn_c.specs.declared.parts.codes.Code.TheVariants as code
 
@@ -143,14 +142,6 @@ abbrev pub FeedSomeCall : List ℕ → ℕ → ℕ → Code → HeldServer → H
 FeedSomeCall bytes old_taken new_taken answer before after =
     TakesNone old_taken new_taken answer before after
     ⊎ TakesFirst bytes old_taken new_taken answer before after
-
--- These bytes came, and the end has read them by this course: all of them if no option is owned, and else what
--- they spell without the items of owned options.
-pub record HasCome (came : List ℕ) (c : Course) (held : HeldServer) : Type 0 where
-  pub whole : held.owned.sieve.options.items ≡ [] → stream c ≡ came
-  pub sifted : held.owned.sieve.options.items ≢ []
-      → (read : List Item) × nvt.LeadsTo came read held.owned.decoder
-      × (stream c ≡ spells (other_items held.owned.sieve.options.items read))
 
 -- The call takes the first entry that waits.
 pub record TakeCall (old_kind new_kind : ℕ) (answer : Code) (before after : HeldServer) : Type 0 where
