@@ -25,7 +25,7 @@ use Rattle.tn_server.specs.Events.{History, Event, begun, next, got, took, wrote
 use Rattle.tn_server.specs.Terms.{Terms, terms, options, flags, chars, mode, settings, linemode, echoes, payload_at, options_after, wish_at, wish_after}
 use Rattle.tn_server.specs.Terms.{mask_told, mode_sent, asks_echo, asked_mask_of, wants_echo, terms_by, chars_after, opening_options}
 use Rattle.tn_server.specs.Replies.{asked_word_items, table_items, new_table_items, echo_items, items_by, items_at, list_replies, triple_items, forward_payload}
-use Rattle.tn_server.specs.{Replies.{data_of, replies, items_said}, declared.wishes.Editing.Editing}
+use Rattle.tn_server.specs.{Replies.{data_of, replies, items_said}, declared.{wishes.Editing.Editing, openings.Opening.TheVariants.{Keys, Lines}}}
 use Rattle.tn_server.proofs.lemmas.Terms.{differ_self, told_again, table_again, says_nothing, echo_keeps_linemode}
 
 -- ITS REPLIES, part by part
@@ -54,13 +54,13 @@ size-by : (f : Flags) (c : Characters) (t : Terms) (o : Options) (editing : Opti
     → size (items_by f c t o editing set) ≤ size (new_table_items (linemode t.options) (linemode o) c) + 10
 size-by f c t o editing set =
     let wish = wish_after f t.wish editing in
-    let echo = echo_items (asks_echo t.options o (mask_told t o wish) set) (wants_echo (asked_mask_of o wish) f) o in
+    let echo = echo_items (asks_echo t.options o (mask_told t o wish) set) (wants_echo t.opening o (asked_mask_of o wish) f) o in
     omega (
       arith,
       size-append (new_table_items (linemode t.options) (linemode o) c) (mode_items (mask_told t o wish) ++ echo),
       size-append (mode_items (mask_told t o wish)) echo,
       size-sent (linemode o) (asked_mask_of t.options t.wish) wish,
-      size-echo (asks_echo t.options o (mask_told t o wish) set) (wants_echo (asked_mask_of o wish) f) o,
+      size-echo (asks_echo t.options o (mask_told t o wish) set) (wants_echo t.opening o (asked_mask_of o wish) f) o,
     )
 
 -- if LINEMODE stays as it was
@@ -75,22 +75,22 @@ says_none f c t o e =
 -- if it goes off
 says_off : (f : Flags) (c : Characters) (t : Terms) (o : Options) → linemode o ≡ false → size (items_by f c t o None false) ≤ 3
 says_off f c t o e =
-    let echo = echo_items (asks_echo t.options o None false) (wants_echo (asked_mask_of o t.wish) f) o in
+    let echo = echo_items (asks_echo t.options o None false) (wants_echo t.opening o (asked_mask_of o t.wish) f) o in
     let is : items_by f c t o None false ≡ echo = rw e refl in
-    omega (arith, ap size is, size-echo (asks_echo t.options o None false) (wants_echo (asked_mask_of o t.wish) f) o)
+    omega (arith, ap size is, size-echo (asks_echo t.options o None false) (wants_echo t.opening o (asked_mask_of o t.wish) f) o)
 
 -- if the flag ECHO is set
 size-set : (f : Flags) (c : Characters) (t : Terms) → size (items_by f c t t.options None true) ≤ 3
 size-set f c t =
-    let echo = echo_items (asks_echo t.options t.options None true) (wants_echo (asked_mask_of t.options t.wish) f) t.options in
+    let echo = echo_items (asks_echo t.options t.options None true) (wants_echo t.opening t.options (asked_mask_of t.options t.wish) f) t.options in
     let is : items_by f c t t.options None true ≡ echo = rw (told_again (linemode t.options) t.wish, table_again (linemode t.options) c) refl in
-    omega (arith, ap size is, size-echo (asks_echo t.options t.options None true) (wants_echo (asked_mask_of t.options t.wish) f) t.options)
+    omega (arith, ap size is, size-echo (asks_echo t.options t.options None true) (wants_echo t.opening t.options (asked_mask_of t.options t.wish) f) t.options)
 
 -- the message for ECHO changes nothing at LINEMODE
 linemode_kept : (f : Flags) (t : Terms) (o : Options) (editing : Option Editing) (set : Bool) → linemode (terms_by f t o editing set).options ≡ linemode o
 linemode_kept f t o editing set =
     let wish = wish_after f t.wish editing in
-    echo_keeps_linemode (asks_echo t.options o (mask_told t o wish) set) (wants_echo (asked_mask_of o wish) f) o
+    echo_keeps_linemode (asks_echo t.options o (mask_told t o wish) set) (wants_echo t.opening o (asked_mask_of o wish) f) o
 
 -- AN OPTION MESSAGE pays for the reply to it, with LINEMODE that was off before.
 abbrev credit : Bool → ℕ
@@ -352,7 +352,7 @@ module _ (stays : (c : Characters) (ts : List Triple) → AreAllowed c → AreAl
   payload_stays c _ allowed = allowed
 
   pub chars_allowed : (h : History) → HasAllowedCharacters h → AreAllowed (chars h)
-  chars_allowed (begun canon) has = has
+  chars_allowed (begun opening canon) has = has
   chars_allowed (next h (got item)) has = payload_stays (chars h) (payload_at (options h) item) (chars_allowed h has)
   chars_allowed (next h (char_set func value)) has = accepts (chars h) func value (chars_allowed h has.0) has.1
   chars_allowed (next h _) has = chars_allowed h has
@@ -361,7 +361,8 @@ module _ (stays : (c : Characters) (ts : List Triple) → AreAllowed c → AreAl
     (names : (c : Characters) (t a : Triple) → AreAllowed c → server_answer c t ≡ Some a → Answers t a)
     (accepts : (c : Characters) (f : Func) (v : Option ℕ) → AreAllowed c → char_fault c f v ≡ None → AreAllowed (with_slot c f v)) where
   bounded : (h : History) → HasAllowedCharacters h → Bounded h
-  bounded (begun canon) has = omega (arith, credit_most (linemode opening_options))
+  bounded (begun Keys canon) has = omega (arith, credit_most (linemode (opening_options Keys)))
+  bounded (begun Lines canon) has = omega (arith, credit_most (linemode (opening_options Lines)))
   bounded (next h (got item)) has =
       let xs : List Symbol = shows (settings h) (edits (mode h)) (echoes (options h)) (line h) item in
       omega (

@@ -174,7 +174,7 @@ stands_wished h old editing s =
     in
     let stays : changes o all.options ≡ false =
     ap (λ (b : Bool). differ (linemode o) b) (echo_keeps_linemode (asks_echo o o (mask_told old.terms o all.wish) false)
-    (wants_echo (asked_mask_of o all.wish) f) o) ∙ differ_self (linemode o) in
+    (wants_echo old.terms.opening o (asked_mask_of o all.wish) f) o) ∙ differ_self (linemode o) in
     record {
       settings = s.settings;
       table = s.table;
@@ -252,20 +252,20 @@ with_echo f on = record f { echo = on }
 
 -- the terms once the flag ECHO is set
 echo_terms : (f : Flags) (t : Terms) → terms_by f t t.options None true
-    ≡ record { options = options_with_echo true (wants_echo (asked_mask_of t.options t.wish) f) t.options; wish = t.wish }
+    ≡ record t { options = options_with_echo true (wants_echo t.opening t.options (asked_mask_of t.options t.wish) f) t.options }
 echo_terms f t =
-    ap (λ (b : Bool). record { options = options_with_echo b (wants_echo (asked_mask_of t.options t.wish) f) t.options; wish = t.wish })
+    ap (λ (b : Bool). record t { options = options_with_echo b (wants_echo t.opening t.options (asked_mask_of t.options t.wish) f) t.options })
     (or_true (changes t.options t.options) (is_some (mask_told t t.options t.wish)))
 
 echo_says : (f : Flags) (c : Characters) (t : Terms) → items_by f c t t.options None true
-    ≡ echo_items true (wants_echo (asked_mask_of t.options t.wish) f) t.options
+    ≡ echo_items true (wants_echo t.opening t.options (asked_mask_of t.options t.wish) f) t.options
 echo_says f c t =
     ap (λ (b : Bool). new_table_items (linemode t.options) (linemode t.options) c
-    ++ (mode_items (mask_told t t.options t.wish) ++ echo_items b (wants_echo (asked_mask_of t.options t.wish) f) t.options))
+    ++ (mode_items (mask_told t t.options t.wish) ++ echo_items b (wants_echo t.opening t.options (asked_mask_of t.options t.wish) f) t.options))
     (or_true (changes t.options t.options) (is_some (mask_told t t.options t.wish)))
-    ∙ ap (λ (xs : List Item). xs ++ (mode_items (mask_told t t.options t.wish) ++ echo_items true (wants_echo (asked_mask_of t.options t.wish) f) t.options))
+    ∙ ap (λ (xs : List Item). xs ++ (mode_items (mask_told t t.options t.wish) ++ echo_items true (wants_echo t.opening t.options (asked_mask_of t.options t.wish) f) t.options))
     (table_again (linemode t.options) c)
-    ∙ ap (λ (told : Option ℕ). mode_items told ++ echo_items true (wants_echo (asked_mask_of t.options t.wish) f) t.options)
+    ∙ ap (λ (told : Option ℕ). mode_items told ++ echo_items true (wants_echo t.opening t.options (asked_mask_of t.options t.wish) f) t.options)
     (told_again (linemode t.options) t.wish)
 
 pub stands_echo : (h : History) (old : End) (on : Bool) → LeadsTo h old → LeadsTo (next h (echo_set on)) (end_after_echo old on)
@@ -273,15 +273,16 @@ stands_echo h old on s =
     let is_flags = ap (λ (x : Settings). x.flags) s.settings in
     let sounds = sound h old s in
     let f = flags_with_echo old on in
-    let o = options_with_echo true (wants_echo old.modes.asked f) old.terms.options in
-    let now : Terms = record { options = o; wish = old.terms.wish } in
+    let was = old.terms in
+    let o = options_with_echo true (wants_echo was.opening was.options old.modes.asked f) was.options in
+    let now : Terms = record was { options = o } in
     let settles : now ≡ terms_by f old.terms old.terms.options None true =
-    ap (λ (a : ℕ). record { options = options_with_echo true (wants_echo a f) old.terms.options; wish = old.terms.wish }) sounds.masks
+    ap (λ (a : ℕ). record was { options = options_with_echo true (wants_echo was.opening was.options a f) was.options }) sounds.masks
     ∙ sym (echo_terms f old.terms) in
     let is_terms : now ≡ terms (next h (echo_set on)) =
     settles ∙ ap (λ (x : Flags). terms_by (with_echo x on) old.terms old.terms.options None true) is_flags
     ∙ ap (λ (t : Terms). terms_by (with_echo (flags h) on) t t.options None true) s.terms in
-    let stays : linemode o ≡ linemode old.terms.options = echo_keeps_linemode true (wants_echo old.modes.asked f) old.terms.options in
+    let stays : linemode o ≡ linemode old.terms.options = echo_keeps_linemode true (wants_echo was.opening was.options old.modes.asked f) was.options in
     record {
       settings = ap (λ (x : Settings). record { flags = with_echo x.flags on; chars = x.chars }) s.settings;
       table = s.table;
@@ -308,7 +309,7 @@ replies_echo h old on s =
     ∙ ap (λ (c : Characters). items_by (with_echo (flags h) on) c old.terms old.terms.options None true) s.table
     ∙ ap (λ (t : Terms). items_by (with_echo (flags h) on) (chars h) t t.options None true) s.terms)
     ∙ echo_says (flags_with_echo old on) old.table old.terms
-    ∙ ap (λ (a : ℕ). echo_items true (wants_echo a (flags_with_echo old on)) old.terms.options) (sym (sound h old s).masks)
+    ∙ ap (λ (a : ℕ). echo_items true (wants_echo old.terms.opening old.terms.options a (flags_with_echo old on)) old.terms.options) (sym (sound h old s).masks)
 
 -- A FORWARD MASK is sent
 pub stands_mask : (h : History) (old : End) (mask : Option Mask) → LeadsTo h old → LeadsTo (next h (mask_set mask)) old

@@ -16,7 +16,7 @@ fits_with true symbols more fits few = omega (arith, leb-true (length symbols + 
 fits_with false symbols more fits few = few
 
 pub queue_fits : (h : History) → length (queue h) ≤ queue_symbols
-queue_fits (begun canon) = omega arith
+queue_fits (begun o canon) = omega arith
 queue_fits (next h (got item)) =
     let more = shows (settings h) (edits (mode h)) (echoes (options h)) (line h) item in
     fits_with (nat_le (length (queue h) + length more) queue_symbols) (queue h) more refl (queue_fits h)

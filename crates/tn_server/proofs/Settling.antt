@@ -36,37 +36,37 @@ current_same false false m wish = refl
 abbrev pub Agree : Modes → Terms → Type 0
 Agree m t = m.asked ≡ asked_mask_of t.options t.wish
 
-abbrev now : Options → Modes → ℕ → Negotiation
-now o m wish = record { options = o; modes = m; wish = wish }
+abbrev now : Terms → Options → Modes → ℕ → Negotiation
+now t o m wish = record { options = o; modes = m; wish = wish; opening = t.opening }
 
-pub told_settles : (t : Terms) (m : Modes) (o : Options) (wish : ℕ) → Agree m t → told_now (linemode t.options) (now o m wish) ≡ mask_told t o wish
+pub told_settles : (t : Terms) (m : Modes) (o : Options) (wish : ℕ) → Agree m t → told_now (linemode t.options) (now t o m wish) ≡ mask_told t o wish
 told_settles t m o wish e = told_same (linemode t.options) (linemode o) m t.wish wish e
 
-asked_settles : (t : Terms) (m : Modes) (o : Options) (wish : ℕ) → Agree m t → (masks_by (linemode t.options) (now o m wish)).asked ≡ asked_mask_of o wish
+asked_settles : (t : Terms) (m : Modes) (o : Options) (wish : ℕ) → Agree m t → (masks_by (linemode t.options) (now t o m wish)).asked ≡ asked_mask_of o wish
 asked_settles t m o wish e = asked_same (linemode t.options) (linemode o) m t.wish wish e
 
 pub terms_settle : (f : Flags) (t : Terms) (m : Modes) (o : Options) (editing : Option Editing) (set : Bool) → Agree m t
-    → (negotiation_after (linemode t.options) set f (now o m (wish_after f t.wish editing))).options ≡ (terms_by f t o editing set).options
+    → (negotiation_after (linemode t.options) set f (now t o m (wish_after f t.wish editing))).options ≡ (terms_by f t o editing set).options
 terms_settle f t m o editing set e =
     let wish = wish_after f t.wish editing in
-    let asked : ℕ = (masks_by (linemode t.options) (now o m wish)).asked in
-    ap (λ (told : Option ℕ). options_with_echo (asks_echo t.options o told set) (wants_echo asked f) o) (told_settles t m o wish e)
-    ∙ ap (λ (a : ℕ). options_with_echo (asks_echo t.options o (mask_told t o wish) set) (wants_echo a f) o) (asked_settles t m o wish e)
+    let asked : ℕ = (masks_by (linemode t.options) (now t o m wish)).asked in
+    ap (λ (told : Option ℕ). options_with_echo (asks_echo t.options o told set) (wants_echo t.opening o asked f) o) (told_settles t m o wish e)
+    ∙ ap (λ (a : ℕ). options_with_echo (asks_echo t.options o (mask_told t o wish) set) (wants_echo t.opening o a f) o) (asked_settles t m o wish e)
 
 pub masks_settle : (f : Flags) (t : Terms) (m : Modes) (o : Options) (wish : ℕ) (set : Bool) → Agree m t
-    → (negotiation_after (linemode t.options) set f (now o m wish)).modes
+    → (negotiation_after (linemode t.options) set f (now t o m wish)).modes
     ≡ record { asked = asked_mask_of o wish; current = mask_after (changes t.options o) m.current None }
 masks_settle f t m o wish set e =
-    let masks = masks_by (linemode t.options) (now o m wish) in
+    let masks = masks_by (linemode t.options) (now t o m wish) in
     ap (λ (a : ℕ). record { asked = a; current = masks.current }) (asked_settles t m o wish e)
     ∙ ap (λ (c : ℕ). record { asked = asked_mask_of o wish; current = c }) (current_same (linemode t.options) (linemode o) m wish)
 
 pub says_settle : (f : Flags) (c : Characters) (t : Terms) (m : Modes) (o : Options) (editing : Option Editing) (set : Bool) → Agree m t
-    → negotiation_items (linemode t.options) set f c (now o m (wish_after f t.wish editing)) ≡ items_by f c t o editing set
+    → negotiation_items (linemode t.options) set f c (now t o m (wish_after f t.wish editing)) ≡ items_by f c t o editing set
 says_settle f c t m o editing set e =
     let wish = wish_after f t.wish editing in
-    let asked : ℕ = (masks_by (linemode t.options) (now o m wish)).asked in
+    let asked : ℕ = (masks_by (linemode t.options) (now t o m wish)).asked in
     ap (λ (told : Option ℕ). new_table_items (linemode t.options) (linemode o) c
-    ++ (mode_items told ++ echo_items (asks_echo t.options o told set) (wants_echo asked f) o)) (told_settles t m o wish e)
+    ++ (mode_items told ++ echo_items (asks_echo t.options o told set) (wants_echo t.opening o asked f) o)) (told_settles t m o wish e)
     ∙ ap (λ (a : ℕ). new_table_items (linemode t.options) (linemode o) c
-    ++ (mode_items (mask_told t o wish) ++ echo_items (asks_echo t.options o (mask_told t o wish) set) (wants_echo a f) o)) (asked_settles t m o wish e)
+    ++ (mode_items (mask_told t o wish) ++ echo_items (asks_echo t.options o (mask_told t o wish) set) (wants_echo t.opening o a f) o)) (asked_settles t m o wish e)

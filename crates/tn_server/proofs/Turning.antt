@@ -27,7 +27,7 @@ sound h old s = record {
 }
 
 -- the terminal once nothing is typed
-fitted_nothing : (queue : List Symbol) → queue_with queue [] ≡ queue
+pub fitted_nothing : (queue : List Symbol) → queue_with queue [] ≡ queue
 fitted_nothing queue = go _
   where
     go : (b : Bool) → (if b then queue ++ [] else queue) ≡ queue
@@ -190,19 +190,19 @@ pub settled_all : (old : End) (o : Options) (ed : Option Editing) (set : Bool) (
     → mask_after (changes old.terms.options o) old.modes.current payload ≡ mask_after (changes old.terms.options o) old.modes.current None → IsSound old
     → with_all old (terms_by old.terminal.settings.flags old.terms o ed set) payload terminal
     ≡ with_negotiated old (negotiation_after (linemode old.terms.options) set old.terminal.settings.flags
-    (record { options = o; modes = old.modes; wish = wish_after old.terminal.settings.flags old.terms.wish ed }))
+    (record { options = o; modes = old.modes; wish = wish_after old.terminal.settings.flags old.terms.wish ed; opening = old.terms.opening }))
 settled_all old o ed set payload terminal c is m s =
     let f = old.terminal.settings.flags in
     let t = old.terms in
     let wish = wish_after f t.wish ed in
     let all = terms_by f t o ed set in
-    let n : Negotiation = record { options = o; modes = old.modes; wish = wish } in
+    let n : Negotiation = record { options = o; modes = old.modes; wish = wish; opening = t.opening } in
     ap (λ (b : Bool). record old {
       terms = all;
       modes = masks_at t.options b wish old.modes.current payload;
       table = chars_after old.table payload;
       terminal = terminal;
-    }) (echo_keeps_linemode (asks_echo t.options o (mask_told t o wish) set) (wants_echo (asked_mask_of o wish) f) o)
+    }) (echo_keeps_linemode (asks_echo t.options o (mask_told t o wish) set) (wants_echo t.opening o (asked_mask_of o wish) f) o)
     ∙ ap (λ (x : ℕ). record old {
       terms = all;
       modes = record { asked = asked_mask_of o wish; current = x };
@@ -212,19 +212,19 @@ settled_all old o ed set payload terminal c is m s =
     ∙ ap (λ (x : Modes). record old { terms = all; modes = x; table = chars_after old.table payload; terminal = terminal })
     (sym (masks_settle f t old.modes o wish set s.masks))
     ∙ ap (λ (x : Options). record old {
-      terms = record { options = x; wish = wish };
+      terms = record t { options = x; wish = wish };
       modes = (negotiation_after (linemode t.options) set f n).modes;
       table = chars_after old.table payload;
       terminal = terminal;
     }) (sym (terms_settle f t old.modes o ed set s.masks))
     ∙ ap (λ (x : Characters). record old {
-      terms = record { options = (negotiation_after (linemode t.options) set f n).options; wish = wish };
+      terms = record t { options = (negotiation_after (linemode t.options) set f n).options; wish = wish };
       modes = (negotiation_after (linemode t.options) set f n).modes;
       table = x;
       terminal = terminal;
     }) c
     ∙ ap (λ (x : Terminal). record old {
-      terms = record { options = (negotiation_after (linemode t.options) set f n).options; wish = wish };
+      terms = record t { options = (negotiation_after (linemode t.options) set f n).options; wish = wish };
       modes = (negotiation_after (linemode t.options) set f n).modes;
       terminal = x;
     }) is

@@ -31,7 +31,7 @@ wish_done old ed (Some mask) payload terminal e c is m s =
     ap (λ (b : Bool). mask_after b old.modes.current payload) (differ_self (linemode t.options)) ∙ m
     ∙ sym (ap (λ (b : Bool). mask_after b old.modes.current None) (differ_self (linemode t.options))) in
     settled_all old t.options (Some ed) false payload terminal c is unchanged s
-    ∙ ap (λ (w : ℕ). with_negotiated old (negotiation_after (linemode t.options) false f (record { options = t.options; modes = old.modes; wish = w })))
+    ∙ ap (λ (w : ℕ). with_negotiated old (negotiation_after (linemode t.options) false f (record { options = t.options; modes = old.modes; wish = w; opening = t.opening })))
     (ap (mask_or t.wish) e)
 
 pub wish_said : (old : End) (ed : Editing) (mask : Option ℕ) → mask_for old.terminal.settings.flags ed ≡ mask → IsSound old
@@ -41,7 +41,7 @@ wish_said old ed (Some mask) e s =
     let f = old.terminal.settings.flags in
     let t = old.terms in
     sym (says_settle f old.table t old.modes t.options (Some ed) false s.masks)
-    ∙ ap (λ (w : ℕ). negotiation_items (linemode t.options) false f old.table (record { options = t.options; modes = old.modes; wish = w }))
+    ∙ ap (λ (w : ℕ). negotiation_items (linemode t.options) false f old.table (record { options = t.options; modes = old.modes; wish = w; opening = t.opening }))
     (ap (mask_or t.wish) e)
 
 pub wish_told : (old : End) (ed : Editing) (mask : Option ℕ) → mask_for old.terminal.settings.flags ed ≡ mask → IsSound old

@@ -16,7 +16,7 @@ max_said _ = 0
 
 -- the characters are such as a terminal can have: those of the start, and each that the owner set since
 abbrev pub HasAllowedCharacters : History → Type 0
-HasAllowedCharacters (begun canon) = AreAllowed canon.settings.chars
+HasAllowedCharacters (begun opening canon) = AreAllowed canon.settings.chars
 HasAllowedCharacters (next h (char_set func value)) =
     HasAllowedCharacters h × (char_fault (chars h) func value ≡ None)
 HasAllowedCharacters (next h _) = HasAllowedCharacters h
@@ -36,7 +36,7 @@ max_of_call (mask_set mask) = 71
 
 -- the most bytes that all calls of a history add
 abbrev pub max_of_calls : History → ℕ
-max_of_calls (begun canon) = 0
+max_of_calls (begun opening canon) = 0
 max_of_calls (next h e) = max_of_calls h + max_of_call e
 
 -- the bytes that were sent, and those of the symbols that wait

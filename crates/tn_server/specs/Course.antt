@@ -6,17 +6,17 @@ use Rattle.tn_nvt.specs.Feeding as nvt
 use Rattle.tn_nvt.specs.declared.items.Item.{Item}
 use Rattle.tn_linemode.specs.Prefixes.{IsRead}
 use Rattle.tn_server.specs.Events.{Event, got, wrote, pulled, History, begun, next, items, gets}
-use Rattle.tn_server.specs.{Screen.queue, Calls.{End, LeadsTo}}
+use Rattle.tn_server.specs.{Screen.queue, Calls.{End, LeadsTo}, declared.openings.Opening.Opening}
 
 -- a course: a start, pieces of the stream, and calls
 pub data Course : Type 0 where
-  started : Canon → Course
+  started : Opening → Canon → Course
   fed : Course → List ℕ → Course
   called : Course → Event → Course
 
 -- the bytes that came
 abbrev pub stream : Course → List ℕ
-stream (started canon) = []
+stream (started opening canon) = []
 stream (fed course piece) = stream course ++ piece
 stream (called course call) = stream course
 
@@ -28,7 +28,7 @@ IsCall _ = Unit {0}
 -- The course leads to this history: each piece brings the items that it adds to those of
 -- the stream before it.
 abbrev pub ReadsAs : Course → History → Type 0
-ReadsAs (started canon) h = h ≡ begun canon
+ReadsAs (started opening canon) h = h ≡ begun opening canon
 ReadsAs (fed course piece) h =
     (old : History) × (more : List Item)
     × ReadsAs course old × IsRead (stream course ++ piece) (items old ++ more) × (h ≡ gets old more)

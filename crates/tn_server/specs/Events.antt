@@ -4,7 +4,7 @@ use Rattle.tn_codes.specs.declared.{codes.Func.Func, masks.Mask.Mask}
 use Rattle.tn_discipline.specs.{Canon.Canon, declared.termios.Settings.Settings}
 use Rattle.tn_linemode.specs.Folding.{after_all}
 use Rattle.tn_nvt.specs.declared.items.Item.{Item}
-use Rattle.tn_server.specs.declared.wishes.Editing.{Editing}
+use Rattle.tn_server.specs.declared.{openings.Opening.Opening, wishes.Editing.Editing}
 
 -- an item that came, or a call that was made
 pub data Event : Type 0 where
@@ -17,24 +17,24 @@ pub data Event : Type 0 where
   echo_set : Bool → Event
   mask_set : Option Mask → Event
 
--- the events since the end was started over a terminal, the latest at the right
+-- the events since the end was opened over a terminal, the latest at the right
 pub data History : Type 0 where
-  begun : Canon → History
+  begun : Opening → Canon → History
   next : History → Event → History
 
 -- the settings that the end was started with
 abbrev pub opening_settings : History → Settings
-opening_settings (begun canon) = canon.settings
+opening_settings (begun opening canon) = canon.settings
 opening_settings (next h e) = opening_settings h
 
 -- the most bytes of a line, with its closing byte
 abbrev pub limit : History → ℕ
-limit (begun canon) = canon.limit
+limit (begun opening canon) = canon.limit
 limit (next h e) = limit h
 
 -- the items of a history
 abbrev pub items : History → List Item
-items (begun canon) = []
+items (begun opening canon) = []
 items (next h (got item)) = items h ++ item ∷ []
 items (next h _) = items h
 

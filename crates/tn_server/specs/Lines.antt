@@ -26,7 +26,7 @@ role_of_item h item = role_at (settings h) (edits (mode h)) item
 
 -- the roles of all keys that came, in order
 abbrev pub roles : History → List Role
-roles (begun canon) = []
+roles (begun opening canon) = []
 roles (next h (got item)) = roles h ++ roles_from (role_of_item h item)
 roles (next h _) = roles h
 
@@ -44,7 +44,7 @@ line h = record { held = half h; ahead = 0; limit = limit h }
 
 -- the number of entries that were taken
 abbrev pub taken_count : History → ℕ
-taken_count (begun canon) = 0
+taken_count (begun opening canon) = 0
 taken_count (next h took) =
     if nat_lt (taken_count h) (length (entries h)) then taken_count h + 1 else taken_count h
 taken_count (next h _) = taken_count h

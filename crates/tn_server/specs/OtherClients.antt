@@ -1,9 +1,10 @@
--- How a server takes clients of other makers: one that edits nothing, as PuTTY, busybox and libtelnet, and a
--- line that was edited before and is sent whole.
-use Rattle.std.specs.Prelude.{◌≡◌, ℕ, IsTrue, false, IsFalse, Option, Some, List, [], ◌∷◌, ◌++◌, map}
-use Rattle.std.specs.List.{flat_map}
+-- How a server takes clients of other makers: one that edits nothing, as PuTTY, busybox and libtelnet; a line
+-- that was edited before and is sent whole; and one that negotiates nothing, as netcat.
+use Rattle.std.specs.Prelude.{◌≡◌, ◌≤◌, ℕ, IsTrue, false, IsFalse, Option, Some, List, [], ◌∷◌, ◌++◌, map}
+use Rattle.std.specs.{Prelude.{All, length}, List.flat_map}
 use Rattle.tn_codes.specs.{PayloadOf.payload_of, declared.payloads.Payload.{Payload, TheVariants.{Mode, Slc}}}
-use Rattle.tn_discipline.specs.{Canon.Canon, Characters.Characters, Keys.{literal_role, roles_from}}
+use Rattle.tn_discipline.specs.{Canon.Canon, Characters.Characters, Limits.max_counted}
+use Rattle.tn_discipline.specs.Keys.{literal_role, role_of_key, roles_from}
 use Rattle.tn_discipline.specs.declared.{keys.Role.{Role, TheVariants.Ordinary}, termios.Settings.Settings}
 use Rattle.tn_linemode.specs.{Exchange.server_after, Modes.{edits, is_acknowledged}}
 use Rattle.tn_nvt.specs.declared.items.Item.{Item, TheVariants.{Byte, Newline, Cmd, Sub}}
@@ -31,7 +32,7 @@ IsRemoteEvent chars _ = Unit {0}
 
 -- No item acknowledges EDIT, and neither side changes a special character.
 abbrev pub StaysRemote : History → Type 0
-StaysRemote (begun canon) = Unit {0}
+StaysRemote (begun opening canon) = Unit {0}
 StaysRemote (next h e) = StaysRemote h × IsRemoteEvent (opening_settings h).chars e
 
 -- the terminal that the end was started over
@@ -58,7 +59,26 @@ IsNoCommand _ = Unit {0}
 abbrev pub line_items : List ℕ → List Item
 line_items bytes = map Byte bytes ++ Newline ∷ []
 
+-- each of these bytes is an ordinary one, by this role of a byte
+abbrev pub AreOrdinaryBy : (ℕ → Role) → List ℕ → Type 0
+AreOrdinaryBy role [] = Unit {0}
+AreOrdinaryBy role (byte ∷ bytes) = (role byte ≡ Ordinary byte) × AreOrdinaryBy role bytes
+
 -- none of these bytes is a closing character
 abbrev pub AreOrdinary : Characters → List ℕ → Type 0
-AreOrdinary chars [] = Unit {0}
-AreOrdinary chars (byte ∷ bytes) = (literal_role chars byte ≡ Ordinary byte) × AreOrdinary chars bytes
+AreOrdinary chars bytes = AreOrdinaryBy (literal_role chars) bytes
+
+-- A CLIENT THAT NEGOTIATES NOTHING: all that comes is text
+abbrev pub IsText : Item → Type 0
+IsText (Byte byte) = Unit {0}
+IsText Newline = Unit {0}
+IsText _ = ⊥
+
+-- these bytes are ordinary as keys of this terminal, and a line has room for them
+abbrev pub IsLine : Canon → List ℕ → Type 0
+IsLine canon bytes =
+    AreOrdinaryBy (role_of_key canon.settings) bytes × (length bytes ≤ max_counted canon.limit)
+
+-- a text of lines
+abbrev pub text_items : List (List ℕ) → List Item
+text_items lines = flat_map line_items lines

@@ -18,6 +18,7 @@ use Rattle.tn_server.specs.{Events.{History, begun, next}, Terms.{is_echo_set, c
 use Rattle.tn_server.specs.Terms.{Terms, terms, options, flags, chars, linemode, payload_at, options_after}
 use Rattle.tn_server.specs.Terms.{asked_mask_of, wish_after, wish_at, wants_echo, mask_told, asks_echo}
 use Rattle.tn_server.specs.{declared.wishes.Editing.Editing, Screen.{sends_ga, none_waits, due, queue}}
+use Rattle.tn_server.specs.declared.openings.Opening.{Opening, TheVariants.{Keys, Lines}}
 
 -- a request that is refused sends nothing
 abbrev pub asked_word_items : Result (Option (Verb × ℕ)) AskFault → List Item
@@ -50,7 +51,8 @@ items_by f c t o editing set =
     let wish = wish_after f t.wish editing in
     new_table_items (linemode t.options) (linemode o) c
     ++ (mode_items (mask_told t o wish)
-    ++ echo_items (asks_echo t.options o (mask_told t o wish) set) (wants_echo (asked_mask_of o wish) f) o)
+    ++ echo_items (asks_echo t.options o (mask_told t o wish) set) (wants_echo t.opening o (asked_mask_of o wish) f)
+    o)
 
 -- the items that the end sends at an event, the message that answers first
 abbrev pub items_at : Flags → Characters → Terms → Event → List Item
@@ -79,15 +81,18 @@ abbrev pub forward_payload : Option Mask → Payload
 forward_payload (Some mask) = ForwardOn (record { 0 = take 32 mask.0 })
 forward_payload None = ForwardOff
 
--- DO LINEMODE, DO NAWS, WILL SUPPRESS-GO-AHEAD, DO SUPPRESS-GO-AHEAD, WILL ECHO
-abbrev pub opening : List Item
-opening =
+-- The opening messages. For keys: DO LINEMODE, DO NAWS, WILL SUPPRESS-GO-AHEAD, DO SUPPRESS-GO-AHEAD, WILL
+-- ECHO. For lines only DO LINEMODE and DO NAWS: WILL ECHO and WILL SUPPRESS-GO-AHEAD make a client without
+-- LINEMODE send each key.
+abbrev pub opening : Opening → List Item
+opening Keys =
     Neg verb.DoIt option_code.linemode
     ∷ Neg verb.DoIt option_code.naws
     ∷ Neg verb.Will option_code.suppress_go_ahead
     ∷ Neg verb.DoIt option_code.suppress_go_ahead
     ∷ Neg verb.Will option_code.echo
     ∷ []
+opening Lines = Neg verb.DoIt option_code.linemode ∷ Neg verb.DoIt option_code.naws ∷ []
 
 -- a symbol of the screen is data
 abbrev pub data_of : Symbol → Item
@@ -108,5 +113,5 @@ replies h (mask_set mask) = payload_items (forward_payload mask)
 
 -- all items that were sent
 abbrev pub items_said : History → List Item
-items_said (begun canon) = opening
+items_said (begun o canon) = opening o
 items_said (next h e) = items_said h ++ replies h e

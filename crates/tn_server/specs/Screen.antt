@@ -25,7 +25,7 @@ shows s edit on half _ = []
 
 -- the symbols that wait to be pulled
 abbrev pub queue : History → List Symbol
-queue (begun canon) = []
+queue (begun opening canon) = []
 queue (next h (got item)) =
     queue_with (queue h) (shows (settings h) (edits (mode h)) (echoes (options h)) (line h) item)
 queue (next h (wrote bytes)) =
@@ -43,7 +43,7 @@ none_waits h = not (nat_lt (taken_count h) (length (entries h)))
 
 -- symbols were pulled since the last GA
 abbrev pub due : History → Bool
-due (begun canon) = false
+due (begun opening canon) = false
 due (next h took) = if sends_ga (none_waits h) (options h) (due h) then false else due h
 due (next h (pulled n)) = due h || nat_lt 0 (length (take n (queue h)))
 due (next h _) = due h
@@ -55,6 +55,6 @@ size_after size _ = size
 
 -- the window's width and height after a history
 abbrev pub size : History → ℕ × ℕ
-size (begun canon) = (0, 0)
+size (begun opening canon) = (0, 0)
 size (next h (got item)) = size_after (size h) (payload_at (options h) item)
 size (next h _) = size h

@@ -55,10 +55,14 @@ masks_by was n =
 abbrev pub is_due : Bool → Bool → Negotiation → Bool
 is_due was set n = differ was (linemode n.options) || (is_some (told_now was n) || set)
 
+-- the server's ECHO is wanted on these terms
+abbrev pub echo_wanted : Negotiation → Flags → Bool
+echo_wanted n f = wants_echo n.opening n.options n.modes.asked f
+
 -- the options and masks after the server's message for ECHO
 abbrev pub negotiation_after : Bool → Bool → Flags → Negotiation → Negotiation
 negotiation_after was set f n =
-    let wanted = wants_echo (masks_by was n).asked f in
+    let wanted = wants_echo n.opening n.options (masks_by was n).asked f in
     record n { modes = masks_by was n; options = options_with_echo (is_due was set n) wanted n.options }
 
 -- the items that are sent for new options: the whole table, the MODE, the message for ECHO
@@ -66,15 +70,18 @@ abbrev pub negotiation_items : Bool → Bool → Flags → Characters → Negoti
 negotiation_items was set f c n =
     new_table_items was (linemode n.options) c
     ++ (mode_items (told_now was n)
-    ++ echo_items (is_due was set n) (wants_echo (masks_by was n).asked f) n.options)
+    ++ echo_items (is_due was set n) (wants_echo n.opening n.options (masks_by was n).asked f) n.options)
 
 -- the part of an end that it negotiates
 abbrev pub negotiation_of : End → Negotiation
-negotiation_of old = record { options = old.terms.options; modes = old.modes; wish = old.terms.wish }
+negotiation_of old =
+    let t = old.terms in
+    record { options = t.options; modes = old.modes; wish = t.wish; opening = t.opening }
 
 -- the end with these options and masks
 abbrev pub with_negotiated : End → Negotiation → End
-with_negotiated old n = record old { terms = record { options = n.options; wish = n.wish }; modes = n.modes }
+with_negotiated old n =
+    record old { terms = record (old.terms) { options = n.options; wish = n.wish }; modes = n.modes }
 
 -- the end after an option message, and its reply
 abbrev pub negotiation_heard : End → Verb → ℕ → Negotiation
@@ -261,10 +268,11 @@ flags_with_echo old on = record (old.terminal.settings.flags) { echo = on }
 abbrev pub end_after_echo : End → Bool → End
 end_after_echo old on =
     let f = flags_with_echo old on in
-    let options = options_with_echo true (wants_echo old.modes.asked f) old.terms.options in
+    let t = old.terms in
+    let options = options_with_echo true (wants_echo t.opening t.options old.modes.asked f) t.options in
     let settings : Settings = record { flags = f; chars = old.terminal.settings.chars } in
     record old {
-      terms = record { options = options; wish = old.terms.wish };
+      terms = record t { options = options };
       terminal = record (old.terminal) { settings = settings };
     }
 
@@ -289,7 +297,8 @@ says old (wished editing) = says_wished old (mask_for old.terminal.settings.flag
 says old (char_set func value) =
     character_items (linemode old.terms.options) (slot old.table func) func value
 says old (echo_set on) =
-    echo_items true (wants_echo old.modes.asked (flags_with_echo old on)) old.terms.options
+    let t = old.terms in
+    echo_items true (wants_echo t.opening t.options old.modes.asked (flags_with_echo old on)) t.options
 says old (mask_set mask) = payload_items (forward_payload mask)
 
 -- a request for this sends a MODE

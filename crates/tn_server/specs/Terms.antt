@@ -13,6 +13,7 @@ use Rattle.tn_option.specs.Options.{Options, new_options, options_after_word, op
 use Rattle.tn_option.specs.{Options.is_yes, declared.negotiation.Agree.Agree}
 use Rattle.tn_option.specs.declared.q_method.Side.TheVariants.{Us, Them}
 use Rattle.tn_server.specs.Events.{Event, got, wished, char_set, echo_set, History, begun, next}
+use Rattle.tn_server.specs.declared.openings.Opening.{Opening, TheVariants.{Keys, Lines}}
 use Rattle.tn_server.specs.declared.wishes.Editing.{Editing, TheVariants.{Remote, Local}}
 
 -- the client's LINEMODE, NAWS and SUPPRESS-GO-AHEAD are agreed to, and the server's own ECHO and
@@ -21,18 +22,22 @@ abbrev pub agreement : Agree
 agreement =
     record { us = true ∷ true ∷ false ∷ false ∷ []; them = false ∷ true ∷ true ∷ true ∷ [] }
 
--- the options after the opening requests, in their order
-abbrev pub opening_options : Options
-opening_options =
+-- the options after the requests with which each end opens, in their order
+abbrev pub options_for_lines : Options
+options_for_lines =
+    options_after_wish
+    (options_after_wish (new_options agreement) Them option_code.linemode true)
+    Them option_code.naws true
+
+-- the options after the opening requests: an end that opens for keys has three more
+abbrev pub opening_options : Opening → Options
+opening_options Keys =
     options_after_wish
     (options_after_wish
-    (options_after_wish
-    (options_after_wish
-    (options_after_wish (new_options agreement) Them option_code.linemode true)
-    Them option_code.naws true)
-    Us option_code.suppress_go_ahead true)
+    (options_after_wish options_for_lines Us option_code.suppress_go_ahead true)
     Them option_code.suppress_go_ahead true)
     Us option_code.echo true
+opening_options Lines = options_for_lines
 
 -- LINEMODE is on at the client's side
 abbrev pub linemode : Options → Bool
@@ -89,14 +94,15 @@ wish_at o _ = None
 
 -- the flags, of which only ECHO changes
 abbrev pub flags : History → Flags
-flags (begun canon) = canon.settings.flags
+flags (begun opening canon) = canon.settings.flags
 flags (next h (echo_set on)) = record (flags h) { echo = on }
 flags (next h _) = flags h
 
--- the options, and the mask of the last request that was allowed
+-- the options, the mask of the last request that was allowed, and how the end opened, which no event changes
 pub record Terms : Type 0 where
   pub options : Options
   pub wish : ℕ
+  pub opening : Opening
 
 -- the mask that the client was asked for: that of the last request, while LINEMODE is on
 abbrev pub asked_mask_while : Bool → ℕ → ℕ
@@ -117,9 +123,18 @@ abbrev pub options_after : Options → Event → Options
 options_after o (got (Neg verb option)) = options_after_word o verb option
 options_after o _ = o
 
+-- a client without LINEMODE edits its lines if the end opened for lines; else it sends each key
+abbrev pub edits_unasked : Opening → Bool
+edits_unasked Keys = false
+edits_unasked Lines = true
+
+-- the client edits: while LINEMODE is on, if the mask that it was asked for has EDIT
+abbrev pub client_edits : Opening → Options → ℕ → Bool
+client_edits opening o asked_mask = if linemode o then edits asked_mask else edits_unasked opening
+
 -- ECHO is the server's if the client does not edit, or if the flag ECHO is clear: then neither end echoes
-abbrev pub wants_echo : ℕ → Flags → Bool
-wants_echo asked_mask flags = not (edits asked_mask) || not flags.echo
+abbrev pub wants_echo : Opening → Options → ℕ → Flags → Bool
+wants_echo opening o asked_mask flags = not (client_edits opening o asked_mask) || not flags.echo
 
 -- the event sets or clears the flag ECHO
 abbrev pub is_echo_set : Event → Bool
@@ -148,9 +163,9 @@ mask_told t o wish = mode_sent (linemode o) (asked_mask_of t.options t.wish) wis
 abbrev pub terms_by : Flags → Terms → Options → Option Editing → Bool → Terms
 terms_by f t o editing set =
     let wish = wish_after f t.wish editing in
-    record {
+    record t {
       options = options_with_echo (asks_echo t.options o (mask_told t o wish) set)
-          (wants_echo (asked_mask_of o wish) f) o;
+          (wants_echo t.opening o (asked_mask_of o wish) f) o;
       wish = wish;
     }
 
@@ -160,7 +175,7 @@ terms_after f t e = terms_by f t (options_after t.options e) (wish_at t.options 
 
 -- the terms after a history
 abbrev pub terms : History → Terms
-terms (begun canon) = record { options = opening_options; wish = 0 }
+terms (begun opening canon) = record { options = opening_options opening; wish = 0; opening = opening }
 terms (next h (got item)) = terms_after (flags h) (terms h) (got item)
 terms (next h (wished editing)) = terms_after (flags h) (terms h) (wished editing)
 terms (next h (echo_set on)) = terms_after (flags (next h (echo_set on))) (terms h) (echo_set on)
@@ -182,7 +197,7 @@ mask_after false mode _ = mode
 
 -- the mask in force after a history
 abbrev pub mode : History → ℕ
-mode (begun canon) = 0
+mode (begun opening canon) = 0
 mode (next h (got item)) =
     mask_after (changes (options h) (options (next h (got item)))) (mode h) (payload_at (options h) item)
 mode (next h _) = mode h
@@ -194,7 +209,7 @@ chars_after c _ = c
 
 -- the characters in force: the opening ones, changed by each adopted triple, each reset and each call
 abbrev pub chars : History → Characters
-chars (begun canon) = canon.settings.chars
+chars (begun opening canon) = canon.settings.chars
 chars (next h (got item)) = chars_after (chars h) (payload_at (options h) item)
 chars (next h (char_set func value)) = with_slot (chars h) func value
 chars (next h _) = chars h

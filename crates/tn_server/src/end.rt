@@ -18,6 +18,7 @@ ghost use Rattle.tn_server.specs.Calls.{LeadsTo, call_fault, char_fault_at, mask
 ghost use Rattle.tn_server.specs.Steps.{end_after, end_after_write, end_after_pull, says, sends_mode_now};
 
 use crate::faults::ServerFault;
+use crate::openings::Opening;
 use crate::screen::{SYMBOL_BYTES, spell_front};
 use crate::sending::{put_char, put_mask};
 use crate::taking::Lent;
@@ -26,36 +27,12 @@ use crate::wishes::Editing;
 use std::alloc::Global;
 use std::marker::Model;
 use std::mem;
-use tn_codes::{Command, Func, IAC, Mask};
+use tn_codes::{Command, Func, Mask};
 use tn_discipline::{CharFault, Chars, Entry, Limit, Settings, Sig};
 use tn_linemode::ServerTable;
 use tn_nvt::{Decoder, put_cmd};
-use tn_option::{ECHO, LINEMODE, NAWS, QState, SUPPRESS_GO_AHEAD, Side};
+use tn_option::{QState, SUPPRESS_GO_AHEAD, Side};
 use tn_pty::Pair;
-
-/// Two of the verbs that the opening messages use (RFC 854).
-const WILL: u8 = 251;
-
-const DO: u8 = 253;
-
-/// The opening messages: DO LINEMODE, DO NAWS, WILL and DO SUPPRESS-GO-AHEAD, WILL ECHO.
-const OPENING: [u8; 15] = [
-    IAC,
-    DO,
-    LINEMODE,
-    IAC,
-    DO,
-    NAWS,
-    IAC,
-    WILL,
-    SUPPRESS_GO_AHEAD,
-    IAC,
-    DO,
-    SUPPRESS_GO_AHEAD,
-    IAC,
-    WILL,
-    ECHO,
-];
 
 /// The server end of one connection. Its owner feeds it the bytes that come from the network and
 /// sends the bytes that it appends. The owner is also the job at the terminal: it takes entries and
@@ -79,7 +56,11 @@ impl Model for ServerEnd {
     ghost view = { λ e.
         record {
           decoder = e.decoder;
-          terms = record { options = e.terms.options; wish = e.terms.wish };
+          terms = record {
+            options = e.terms.options;
+            wish = e.terms.wish;
+            opening = e.terms.opening;
+          };
           modes = e.terms.modes;
           table = e.table;
           terminal = e.pair;
@@ -91,7 +72,7 @@ impl Model for ServerEnd {
 impl ServerEnd {
     /// Starts an end over a terminal with these settings, whose lines have at most `limit` bytes,
     /// and appends the opening messages (RFC 855): DO LINEMODE, DO NAWS, WILL and DO
-    /// SUPPRESS-GO-AHEAD, WILL ECHO.
+    /// SUPPRESS-GO-AHEAD, WILL ECHO. A client without LINEMODE then sends each key.
     ///
     /// # Errors
     ///
@@ -103,21 +84,72 @@ impl ServerEnd {
         out: &mut Vec<u8>,
     ) -> Result<ServerEnd, ServerFault>
         ensures leads { IfOk result (λ end.
-            LeadsTo (begun (record { settings = settings; limit = limit })) end) }
+            LeadsTo (begun Opening.Keys (record { settings = settings; limit = limit })) end) }
         ensures reads { IfOk result (λ end. nvt.LeadsTo [] [] end.decoder) }
         ensures runs { IfOk result (λ end. IsFalse end.failed) }
         ensures opens { IfOk result (λ end. IsFalse end.terminal.closed) }
-        ensures out { OnOk result (out.new.items ≡ out.old.items ++ spells opening) }
+        ensures out { OnOk result (out.new.items ≡ out.old.items ++ spells (opening Opening.Keys)) }
+        ensures err { OnErr result (out.new.items ≡ out.old.items) }
+        ensures fault { IfErr result (λ fault. fault ≡ ServerFault.Memory) }
+    {
+        ServerEnd::open(Opening::Keys, alloc, settings, limit, out)
+    }
+
+    /// Starts an end for clients that edit lines themselves, over a terminal with these settings,
+    /// whose lines have at most `limit` bytes, and appends the opening messages (RFC 855): DO
+    /// LINEMODE, DO NAWS. A client without LINEMODE then sends whole lines, and echoes them itself
+    /// unless the terminal's flag ECHO is clear.
+    ///
+    /// # Errors
+    ///
+    /// - `Memory`: there is no memory for the terminal or for the messages; nothing was appended.
+    pub fn start_lines(
+        alloc: Global,
+        settings: Settings,
+        limit: Limit,
+        out: &mut Vec<u8>,
+    ) -> Result<ServerEnd, ServerFault>
+        ensures leads { IfOk result (λ end.
+            LeadsTo (begun Opening.Lines (record { settings = settings; limit = limit })) end) }
+        ensures reads { IfOk result (λ end. nvt.LeadsTo [] [] end.decoder) }
+        ensures runs { IfOk result (λ end. IsFalse end.failed) }
+        ensures opens { IfOk result (λ end. IsFalse end.terminal.closed) }
+        ensures out { OnOk result (out.new.items ≡ out.old.items ++ spells (opening Opening.Lines)) }
+        ensures err { OnErr result (out.new.items ≡ out.old.items) }
+        ensures fault { IfErr result (λ fault. fault ≡ ServerFault.Memory) }
+    {
+        ServerEnd::open(Opening::Lines, alloc, settings, limit, out)
+    }
+
+    /// Starts an end that opens so, over a terminal with these settings, whose lines have at most
+    /// `limit` bytes, and appends the opening messages.
+    ///
+    /// # Errors
+    ///
+    /// - `Memory`: there is no memory for the terminal or for the messages; nothing was appended.
+    pub fn open(
+        kind: Opening,
+        alloc: Global,
+        settings: Settings,
+        limit: Limit,
+        out: &mut Vec<u8>,
+    ) -> Result<ServerEnd, ServerFault>
+        ensures leads { IfOk result (λ end.
+            LeadsTo (begun kind (record { settings = settings; limit = limit })) end) }
+        ensures reads { IfOk result (λ end. nvt.LeadsTo [] [] end.decoder) }
+        ensures runs { IfOk result (λ end. IsFalse end.failed) }
+        ensures opens { IfOk result (λ end. IsFalse end.terminal.closed) }
+        ensures out { OnOk result (out.new.items ≡ out.old.items ++ spells (opening kind)) }
         ensures err { OnErr result (out.new.items ≡ out.old.items) }
         ensures fault { IfErr result (λ fault. fault ≡ ServerFault.Memory) }
     {
         let table = ServerTable::new(settings.chars);
         let pair = Pair::new(alloc, settings, limit)?;
-        out.extend_from_slice(&OPENING)?;
+        kind.put(out)?;
         Ok(ServerEnd {
             alloc,
             decoder: Decoder::new(alloc),
-            terms: Negotiation::new(),
+            terms: Negotiation::new(kind),
             table,
             pair,
             pulled: false,

@@ -1,7 +1,7 @@
 //! Laws of the server end, only over the definitions.
 
 ghost use Rattle.std.specs.Prelude.{◌≡◌, ◌≢◌, ◌↔◌, ◌<◌, ◌≤◌, ◌+◌, ◌*◌, ◌∷◌, ◌++◌, ℕ, IsTrue, List, All, []};
-ghost use Rattle.std.specs.{Prelude.{length, map}, List.flat_map};
+ghost use Rattle.std.specs.{Prelude.{IsFalse, length, map}, List.flat_map};
 ghost use Rattle.tn_discipline.specs.Canon.{Canon, typed_entries, typed_half};
 ghost use Rattle.tn_discipline.specs.Entries.{HasAtMost, entries_of, half_of};
 ghost use Rattle.tn_discipline.specs.{Limits.{is_limit, max_counted}, declared.reads.Entry.TheVariants.Text};
@@ -15,16 +15,17 @@ ghost use Rattle.tn_nvt.specs.Feeding as nvt;
 ghost use Rattle.tn_pty.specs.Terminal.{output_symbols, queue_symbols, max_waiting};
 ghost use Rattle.tn_pty.specs.declared.pty.PtyFault.TheVariants.{TooFarAhead};
 ghost use Rattle.tn_server.specs.Course.{Course, started, fed, called, stream, in_parts, IsCall, ReadsAs};
-ghost use Rattle.tn_server.specs.{Course.CourseLeadsTo, Events.{opening_settings, limit}, Screen.queue};
-ghost use Rattle.tn_server.specs.Events.{Event, got, took, History, begun, next, items, gets};
+ghost use Rattle.tn_server.specs.{Course.CourseLeadsTo, Events.{items, gets}, Screen.queue, Faults.IsCause};
+ghost use Rattle.tn_server.specs.Events.{opening_settings, limit, Event, got, took, History, begun, next};
 ghost use Rattle.tn_server.specs.{Lines.{entries, half, waiting}, Replies.{data_of, replies, items_said}};
 ghost use Rattle.tn_server.specs.OtherClients.{StaysRemote, opening_canon, roles_of_items, keys_of};
-ghost use Rattle.tn_server.specs.{OtherClients.{IsNoCommand, line_items, AreOrdinary}, Calls.{End, LeadsTo}};
+ghost use Rattle.tn_server.specs.OtherClients.{IsNoCommand, line_items, AreOrdinary, IsText, IsLine};
+ghost use Rattle.tn_server.specs.{OtherClients.text_items, Calls.{End, LeadsTo}, Stopping.StopsBetween};
+ghost use Rattle.tn_server.specs.Terms.{echoes, options, settings, chars, mode, sends_mode};
 ghost use Rattle.tn_server.specs.Bounds.{max_said, HasAllowedCharacters, max_of_calls, bytes_due};
-ghost use Rattle.tn_server.specs.{Answering.{Feeds, StopsWithin}, Faults.IsCause, Stopping.StopsBetween};
+ghost use Rattle.tn_server.specs.{Answering.{Feeds, StopsWithin}, declared.wishes.Editing.Editing};
 ghost use Rattle.tn_server.specs.Steps.{end_after, says, says_items, sends_mode_now, IsRefusedFor};
-ghost use Rattle.tn_server.specs.{Terms.{settings, chars, mode, sends_mode}, declared.wishes.Editing.Editing};
-ghost use Rattle.tn_server.specs.declared.faults.ServerFault.{ServerFault};
+ghost use Rattle.tn_server.specs.declared.{faults.ServerFault.ServerFault, openings.Opening.Opening};
 
 use crate::end::ServerEnd;
 use tn_discipline::laws::accepted_characters;
@@ -87,8 +88,8 @@ pub fn one_history()
 
 /// A new end is at the beginning of its course.
 pub fn course_begins()
-    ensures { (canon : Canon) (end : End) → LeadsTo (begun canon) end → nvt.LeadsTo [] [] end.decoder →
-        CourseLeadsTo (started canon) end }
+    ensures { (opening : Opening) (canon : Canon) (end : End) → LeadsTo (begun opening canon) end →
+        nvt.LeadsTo [] [] end.decoder → CourseLeadsTo (started opening canon) end }
 {}
 
 /// One piece more: what was appended is what the longer course sends more.
@@ -222,6 +223,18 @@ pub fn remote_clients()
         entries h ≡ typed_entries (opening_canon h) (keys_of (items h)) }
     ensures typed_half { (h : History) → StaysRemote h → All IsNoCommand (items h) →
         half h ≡ typed_half (opening_canon h) (keys_of (items h)) }
+{}
+
+/// A client that negotiates nothing, as netcat, sends text with CR LF. However the end opened, the lines
+/// of the text are its entries; and no text is echoed while ECHO is off, which it is unless the client
+/// sends an option message.
+pub fn plain_clients()
+    ensures lines { (opening : Opening) (canon : Canon) (lines : List (List ℕ)) →
+        IsFalse canon.settings.flags.inlcr → All (IsLine canon) lines →
+        entries (gets (begun opening canon) (text_items lines)) ≡ map (λ line. Text (line ++ 10 ∷ [])) lines }
+    ensures unechoed { (h : History) (item : Item) → IsFalse (echoes (options h)) → IsText item →
+        queue (next h (got item)) ≡ queue h }
+    ensures off { (h : History) → All IsText (items h) → IsFalse (echoes (options h)) }
 {}
 
 /// A client of any maker that edits sends a line of ordinary bytes that fits, whole and with a new

@@ -1,7 +1,7 @@
 //! The server end of a Telnet connection, with its pseudoterminal pair.
 //!
 //! Begin with `ServerEnd`, which one connection owns, and `Editing`, which says where its lines are
-//! edited.
+//! edited. `ServerEnd::start_lines` opens for clients that edit lines themselves.
 //!
 //! ```
 //! let mut end = ServerEnd::start(alloc, Settings::standard(), Limit::standard(), &mut out)?;
@@ -18,12 +18,14 @@
 
 pub use end::ServerEnd;
 pub use faults::ServerFault;
+pub use openings::{Approach, Opening};
 pub use wishes::Editing;
 
 mod end;
 mod faults;
 mod items;
 pub mod laws;
+mod openings;
 mod screen;
 mod sending;
 mod taking;

@@ -5,34 +5,38 @@ ghost use Rattle.std.specs.Prelude.{OnOk, OnErr};
 ghost use Rattle.tn_linemode.specs.{Modes.no_mode, Words.list_items, Exchange.announcement};
 ghost use Rattle.tn_linemode.specs.Prefixes.{AppendsPrefix};
 ghost use Rattle.tn_nvt.specs.{Room.LacksRoom, Spelling.spells};
-ghost use Rattle.tn_server.specs.Terms.{opening_options, linemode, echoes, options_with_echo, wants_echo};
-ghost use Rattle.tn_server.specs.Replies.{new_table_items, echo_items};
-ghost use Rattle.tn_server.specs.Steps.{told_now, masks_by, negotiation_after, negotiation_items};
+ghost use Rattle.tn_server.specs.Terms.{opening_options, linemode, echoes, options_with_echo, client_edits};
+ghost use Rattle.tn_server.specs.{Replies.{new_table_items, echo_items}, Steps.negotiation_items};
+ghost use Rattle.tn_server.specs.Steps.{told_now, masks_by, echo_wanted, negotiation_after};
 
+use crate::openings::Opening;
 use std::alloc::{AllocError, Global};
 use tn_discipline::Flags;
 use tn_linemode::{ServerMode, ServerTable, put_list, put_mode, put_word};
 use tn_option::{Agree, ECHO, Engine, LINEMODE, NAWS, SUPPRESS_GO_AHEAD, Side};
 
-/// The options, the masks, and the mask of the last request that was allowed.
+/// The options, the masks, the mask of the last request that was allowed, and how the end opened.
 #[derive(Clone, Copy)]
 pub(crate) struct Negotiation {
     pub(crate) options: Engine,
     pub(crate) modes: ServerMode,
     pub(crate) wish: u8,
+    pub(crate) opening: Opening,
 }
 
 impl Negotiation {
     /// Makes the terms after the opening requests were sent.
-    pub(crate) fn new() -> Negotiation
-        ensures options { result.options ≡ opening_options }
+    pub(crate) fn new(opening: Opening) -> Negotiation
+        ensures options { result.options ≡ opening_options opening }
         ensures modes { result.modes ≡ no_mode }
         ensures wish { result.wish ≡ 0 }
+        ensures opening { result.opening ≡ opening }
     {
         Negotiation {
-            options: opening_options(),
+            options: opening_options(opening),
             modes: ServerMode::new(),
             wish: 0,
+            opening,
         }
     }
 
@@ -46,6 +50,17 @@ impl Negotiation {
         ensures { result ≡ echoes self.now.options }
     {
         self.options.is_on(Side::Us, ECHO)
+    }
+
+    // Returns whether the client edits its lines: while LINEMODE is on, if the mask that it was
+    // asked for has EDIT.
+    fn client_edits(&self) -> bool
+        ensures { result ≡ client_edits self.now.opening self.now.options self.now.modes.asked }
+    {
+        if self.has_linemode() {
+            return self.modes.asked().edit();
+        }
+        self.opening.edits_unasked()
     }
 
     /// Asks for the requested mask if LINEMODE is on, and returns the MODE to send. A change of
@@ -75,22 +90,22 @@ impl Negotiation {
     ) -> Result<(), AllocError>
         ensures options { OnOk result (self.new ≡
             record self.old {
-              options = options_with_echo is_due (wants_echo self.old.modes.asked flags.now)
-                  self.old.options;
+              options = options_with_echo is_due (echo_wanted self.old flags.now) self.old.options;
             }) }
         ensures out { OnOk result (out.new.items ≡
             out.old.items ++
-            spells (echo_items is_due (wants_echo self.old.modes.asked flags.now) self.old.options)) }
+            spells (echo_items is_due (echo_wanted self.old flags.now) self.old.options)) }
         ensures err { OnErr result (out.new.items ≡ out.old.items) }
         ensures some { OnErr result
-            (echo_items is_due (wants_echo self.old.modes.asked flags.now) self.old.options ≢ []) }
-        ensures full { let wanted = wants_echo self.old.modes.asked flags.now in OnErr result
+            (echo_items is_due (echo_wanted self.old flags.now) self.old.options ≢ []) }
+        ensures full { let wanted = echo_wanted self.old flags.now in OnErr result
             (LacksRoom out.old (length (spells (echo_items is_due wanted self.old.options)))) }
     {
         if !is_due {
             return Ok(());
         }
-        let wanted = !self.modes.asked().edit() || !flags.echo;
+        let client_edits = self.client_edits();
+        let wanted = !client_edits || !flags.echo;
         match self.options.ask(Side::Us, ECHO, wanted) {
             Ok(said) => {
                 put_word(said, out)?;
@@ -171,8 +186,9 @@ pub(crate) fn announce(
     put_list(&triples, out)
 }
 
-fn opening_options() -> Engine
-    ensures { result ≡ opening_options }
+// Returns the options after the opening requests.
+fn opening_options(opening: Opening) -> Engine
+    ensures { result ≡ opening_options opening }
 {
     let mut options = Engine::new(Agree {
         us: [true, true, false, false],
@@ -180,6 +196,9 @@ fn opening_options() -> Engine
     });
     let _linemode = options.ask(Side::Them, LINEMODE, true);
     let _naws = options.ask(Side::Them, NAWS, true);
+    if matches!(opening, Opening::Lines) {
+        return options;
+    }
     let _ours = options.ask(Side::Us, SUPPRESS_GO_AHEAD, true);
     let _theirs = options.ask(Side::Them, SUPPRESS_GO_AHEAD, true);
     let _echo = options.ask(Side::Us, ECHO, true);

@@ -10,20 +10,21 @@ use Rattle.tn_nvt.proofs.lemmas.Reading.{reads_none, has_reading}
 use Rattle.tn_linemode.proofs.lemmas.Reading.{same_more, part_in_two}
 use Rattle.tn_server.specs.{Course.{Course, started, fed, called, stream, IsCall, ReadsAs, CourseLeadsTo, in_parts}, Replies.{data_of, items_said}}
 use Rattle.tn_server.specs.{Events.{Event, History, begun, next, got, wrote, pulled, items, gets}, Screen.queue, Terms.settings, Answering.Feeds}
-use Rattle.tn_server.specs.{Calls.{End, LeadsTo}, Steps.{end_after, says_items}}
+use Rattle.tn_server.specs.{Calls.{End, LeadsTo}, Steps.{end_after, says_items}, declared.openings.Opening.Opening}
 use Rattle.tn_linemode.specs.Prefixes.{IsRead}
 use Rattle.tn_server.proofs.lemmas.{Leading.{stands, stands_fed, says_all}, Gathering.call_keeps, Histories.{items-gets, gets-append}}
 
 pub one_history : (c : Course) (h k : History) → ReadsAs c h → ReadsAs c k → h ≡ k
-one_history (started canon) h k a b = a ∙ sym b
+one_history (started o canon) h k a b = a ∙ sym b
 one_history (fed c piece) h k a b =
     let old = one_history c a.0 b.0 a.2 b.2 in
     let more = same_more (stream c ++ piece) (items a.0) (items b.0) a.1 b.1 (ap items old) a.3 b.3 in
     a.4 ∙ ap (λ (x : History). gets x a.1) old ∙ ap (gets b.0) more ∙ sym b.4
 one_history (called c e) h k a b = a.3 ∙ ap (λ (x : History). next x e) (one_history c a.0 b.0 a.1 b.1) ∙ sym b.3
 
-pub begins : (canon : Canon) (end : End) → LeadsTo (begun canon) end → nvt.LeadsTo [] [] end.decoder → CourseLeadsTo (started canon) end
-begins canon end stands reads = record { history = begun canon; reads_as = refl; leads = stands; reads = reads }
+pub begins : (opening : Opening) (canon : Canon) (end : End) → LeadsTo (begun opening canon) end → nvt.LeadsTo [] [] end.decoder
+    → CourseLeadsTo (started opening canon) end
+begins opening canon end stands reads = record { history = begun opening canon; reads_as = refl; leads = stands; reads = reads }
 
 pub fed_on : (c : Course) (old new : End) (piece before after : List ℕ) → CourseLeadsTo c old → Feeds old piece before after new
     → CourseLeadsTo (fed c piece) new
@@ -60,7 +61,7 @@ called_on c old e a call = record {
 
 -- the items of a history are those of the stream
 pub reads_all : (c : Course) (h : History) → ReadsAs c h → IsRead (stream c) (items h)
-reads_all (started canon) h is = ([], subst (λ xs. Reading [] xs []) (sym (ap items is)) reads_none)
+reads_all (started o canon) h is = ([], subst (λ xs. Reading [] xs []) (sym (ap items is)) reads_none)
 reads_all (fed c piece) h (old, more, leads, read, is) =
     (read.0, subst (λ xs. Reading (stream c ++ piece) xs read.0) (sym (ap items is ∙ items-gets old more)) read.1)
 reads_all (called c e) h (old, leads, call, is) =

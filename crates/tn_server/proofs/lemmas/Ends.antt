@@ -63,7 +63,7 @@ one_more_fits true n m e fits = let less = ltb-true n m e in omega (arith, less)
 one_more_fits false n m e fits = fits
 
 taken_fits : (h : History) → taken_count h ≤ length (entries h)
-taken_fits (begun canon) = omega arith
+taken_fits (begun o canon) = omega arith
 taken_fits (next h (got item)) =
     omega (
       arith,

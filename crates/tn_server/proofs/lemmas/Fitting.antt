@@ -13,9 +13,9 @@ use Rattle.tn_nvt.specs.{Spelling.Fits, declared.items.Item.{Item, TheVariants.{
 use Rattle.tn_option.specs.{Options.{Options, reply_to, answer_to, state_of, is_yes}, declared.q_method.{AskFault.AskFault, Side.TheVariants.{Us, Them}}}
 use Rattle.tn_server.specs.Events.{History, Event, begun, next, got, took, wrote, pulled, wished, char_set, echo_set, mask_set}
 use Rattle.tn_server.specs.Terms.{Terms, terms, options, flags, chars, linemode, payload_at, options_after, wish_at, is_echo_set, wish_after, mask_told}
-use Rattle.tn_server.specs.{Terms.{asks_echo, asked_mask_of, wants_echo, chars_after}, Screen.{queue, sends_ga, none_waits, due}}
+use Rattle.tn_server.specs.{Terms.{asks_echo, asked_mask_of, wants_echo, chars_after}, Replies.{forward_payload, data_of, opening, replies, items_said}}
+use Rattle.tn_server.specs.{Screen.{queue, sends_ga, none_waits, due}, declared.{wishes.Editing.Editing, openings.Opening.{Opening, TheVariants.{Keys, Lines}}}}
 use Rattle.tn_server.specs.Replies.{asked_word_items, reply_items, table_items, new_table_items, echo_items, items_by, items_at, list_replies, triple_items}
-use Rattle.tn_server.specs.{Replies.{forward_payload, data_of, opening, replies, items_said}, declared.wishes.Editing.Editing}
 use Rattle.tn_codes.proofs.lemmas.Masks.{length-trimmed}
 use Rattle.tn_linemode.proofs.lemmas.{Answering.length-answers_along, Fitting.{word-fits, mode-fits, list-fits}, Listing.{IsShortOrNone, short_under}}
 use Rattle.tn_server.proofs.Listing.{length-announcement}
@@ -35,11 +35,11 @@ echo_fits false wanted o = All-nil Fits
 says_by_fits : (f : Flags) (c : Characters) (t : Terms) (o : Options) (editing : Option Editing) (set : Bool) → All Fits (items_by f c t o editing set)
 says_by_fits f c t o editing set =
     let wish = wish_after f t.wish editing in
-    let echo = echo_items (asks_echo t.options o (mask_told t o wish) set) (wants_echo (asked_mask_of o wish) f) o in
+    let echo = echo_items (asks_echo t.options o (mask_told t o wish) set) (wants_echo t.opening o (asked_mask_of o wish) f) o in
     All-append Fits (new_table_items (linemode t.options) (linemode o) c) (mode_items (mask_told t o wish) ++ echo)
     (table_fits (linemode o && not (linemode t.options)) c)
     (All-append Fits (mode_items (mask_told t o wish)) echo (mode-fits (mask_told t o wish))
-    (echo_fits (asks_echo t.options o (mask_told t o wish) set) (wants_echo (asked_mask_of o wish) f) o))
+    (echo_fits (asks_echo t.options o (mask_told t o wish) set) (wants_echo t.opening o (asked_mask_of o wish) f) o))
 
 back_fits : (o : Options) (e : Event) → All Fits (reply_items o e)
 back_fits o (got (Neg v option)) = word-fits (reply_to o v option)
@@ -101,10 +101,10 @@ words_fit : (words : List (Verb × ℕ)) → All Fits (map (λ w. Neg w.0 w.1) w
 words_fit [] = All-nil Fits
 words_fit (w ∷ words) = neg_fits w.0 w.1 (map (λ w. Neg w.0 w.1) words) (words_fit words)
 
-pub opening-fits : All Fits opening
-opening-fits =
-    words_fit ((verb.DoIt, 34) ∷ (verb.DoIt, 31) ∷ (verb.Will, 3) ∷ (verb.DoIt, 3) ∷ (verb.Will, 1) ∷ [])
+pub opening-fits : (o : Opening) → All Fits (opening o)
+opening-fits Keys = words_fit ((verb.DoIt, 34) ∷ (verb.DoIt, 31) ∷ (verb.Will, 3) ∷ (verb.DoIt, 3) ∷ (verb.Will, 1) ∷ [])
+opening-fits Lines = words_fit ((verb.DoIt, 34) ∷ (verb.DoIt, 31) ∷ [])
 
 pub sent-fit : (h : History) → All Fits (items_said h)
-sent-fit (begun canon) = opening-fits
+sent-fit (begun o canon) = opening-fits o
 sent-fit (next h e) = All-append Fits (items_said h) (replies h e) (sent-fit h) (replies-fit h e)

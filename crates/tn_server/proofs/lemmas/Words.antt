@@ -14,12 +14,12 @@ use Rattle.tn_option.specs.{Options.{Options, new_options, options_after_word, o
 use Rattle.tn_option.specs.declared.q_method.{AskFault.AskFault, Side.TheVariants.{Us, Them}}
 use Rattle.tn_option.proofs.lemmas.Agreement.{Moves, then-Moves}
 use Rattle.tn_linemode.proofs.lemmas.OptionWords.{words_in-append, words_in-word, words_in-list, words_in-mode}
-use Rattle.tn_server.specs.{Calls.{End, LeadsTo}, Steps.{end_after, says, end_after_items, says_items}, Course.IsCall, declared.wishes.Editing.Editing}
-use Rattle.tn_server.specs.Events.{Event, History, next, got, took, wrote, pulled, wished, char_set, echo_set, mask_set, gets}
+use Rattle.tn_server.specs.{Calls.{End, LeadsTo}, Events.{Event, History, next, got, took, wrote, pulled, wished, char_set, echo_set, mask_set, gets}}
+use Rattle.tn_server.specs.{Steps.{end_after, says, end_after_items, says_items}, Replies.{forward_payload, data_of, opening, replies, items_said}}
+use Rattle.tn_server.specs.{Course.IsCall, declared.{wishes.Editing.Editing, openings.Opening.{Opening, TheVariants.{Keys, Lines}}}}
 use Rattle.tn_server.specs.Replies.{asked_word_items, reply_items, table_items, new_table_items, echo_items, items_by, items_at, list_replies, triple_items}
-use Rattle.tn_server.specs.{Replies.{forward_payload, data_of, opening, replies, items_said}, Screen.{queue, sends_ga, none_waits, due}}
+use Rattle.tn_server.specs.{Screen.{queue, sends_ga, none_waits, due}, Terms.{mask_told, asks_echo, asked_mask_of, wants_echo, options_with_echo, chars_after}}
 use Rattle.tn_server.specs.Terms.{Terms, terms, agreement, opening_options, options, flags, chars, linemode, payload_at, options_after, wish_at, wish_after}
-use Rattle.tn_server.specs.Terms.{mask_told, asks_echo, asked_mask_of, wants_echo, options_with_echo, chars_after}
 use Rattle.tn_server.proofs.lemmas.Leading.{stands, says_as, stands_all, says_all}
 
 -- a server's options and those of its client, and the messages that are on their way to each
@@ -74,7 +74,7 @@ echo_moves false wanted o there ws vs = ([], ap (λ (x : List (Verb × ℕ)). pa
 
 pub by_words : (f : Flags) (c : Characters) (t : Terms) (o : Options) (ed : Option Editing) (set : Bool)
     → words_in (items_by f c t o ed set)
-    ≡ words_in (echo_items (asks_echo t.options o (mask_told t o (wish_after f t.wish ed)) set) (wants_echo (asked_mask_of o (wish_after f t.wish ed)) f) o)
+    ≡ words_in (echo_items (asks_echo t.options o (mask_told t o (wish_after f t.wish ed)) set) (wants_echo t.opening o (asked_mask_of o (wish_after f t.wish ed)) f) o)
 by_words f c t o ed set =
     none_first (new_table_items (linemode t.options) (linemode o) c) _ (table_none (linemode o && not (linemode t.options)) c)
     ∙ none_first (mode_items (mask_told t o (wish_after f t.wish ed))) _ (words_in-mode (mask_told t o (wish_after f t.wish ed)))
@@ -82,12 +82,12 @@ by_words f c t o ed set =
 -- the messages that are sent once the options are new
 by_moves : (f : Flags) (c : Characters) (t : Terms) (o there : Options) (ed : Option Editing) (set : Bool) (ws vs : List (Verb × ℕ))
     → Moves (pair o there ws vs)
-    (pair (options_with_echo (asks_echo t.options o (mask_told t o (wish_after f t.wish ed)) set) (wants_echo (asked_mask_of o (wish_after f t.wish ed)) f) o)
+    (pair (options_with_echo (asks_echo t.options o (mask_told t o (wish_after f t.wish ed)) set) (wants_echo t.opening o (asked_mask_of o (wish_after f t.wish ed)) f) o)
     there ws (vs ++ words_in (items_by f c t o ed set)))
 by_moves f c t o there ed set ws vs =
     let wish = wish_after f t.wish ed in
     let due = asks_echo t.options o (mask_told t o wish) set in
-    let wanted = wants_echo (asked_mask_of o wish) f in
+    let wanted = wants_echo t.opening o (asked_mask_of o wish) f in
     let m = echo_moves due wanted o there ws vs in
     (m.0, m.1 ∙ ap (λ (x : List (Verb × ℕ)). pair (options_with_echo due wanted o) there ws (vs ++ x)) (sym (by_words f c t o ed set)))
 
@@ -176,10 +176,11 @@ call_moves h (char_set func value) there ws vs is =
 call_moves h (echo_set on) there ws vs is = by_moves (flags (next h (echo_set on))) (chars h) (terms h) (options h) there None true ws vs
 call_moves h (mask_set mask) there ws vs is = quiet_call (options h) there (replies h (mask_set mask)) ws vs (mask_none mask)
 
--- THE OPENING MESSAGES are five requests
-pub opening_leads : (there : Agree) → LeadTo agreement there (pair opening_options (new_options there) [] (words_in opening))
+-- THE OPENING MESSAGES are requests: five, or two
+pub opening_leads : (o : Opening) (there : Agree) → LeadTo agreement there (pair (opening_options o) (new_options there) [] (words_in (opening o)))
 unfolding new_options options_after_wish answer_to cell
-opening_leads there = record {
+opening_leads Lines there = record { list = ask_here Them 34 true ∷ ask_here Them 31 true ∷ []; is = refl }
+opening_leads Keys there = record {
   list = ask_here Them 34 true ∷ ask_here Them 31 true ∷ ask_here Us 3 true ∷ ask_here Them 3 true ∷ ask_here Us 1 true ∷ [];
   is = refl;
 }

@@ -10,7 +10,7 @@ returns-clause-cause c =
     let r = c.raw_key.result in
     let old : End = record {
       decoder = p.decoder;
-      terms = record { options = p.terms.options; wish = p.terms.wish };
+      terms = record { options = p.terms.options; wish = p.terms.wish; opening = p.terms.opening };
       modes = p.terms.modes;
       table = p.table;
       terminal = p.pair;

@@ -13,7 +13,7 @@ returns-then-edit c =
     let r = c.edited_run.result in
     let old : End = record {
       decoder = p.decoder;
-      terms = record { options = p.terms.options; wish = p.terms.wish };
+      terms = record { options = p.terms.options; wish = p.terms.wish; opening = p.terms.opening };
       modes = p.terms.modes;
       table = p.table;
       terminal = p.pair;
@@ -39,7 +39,7 @@ returns c =
     let r = c.type_run.result in
     let old : End = record {
       decoder = p.decoder;
-      terms = record { options = p.terms.options; wish = p.terms.wish };
+      terms = record { options = p.terms.options; wish = p.terms.wish; opening = p.terms.opening };
       modes = p.terms.modes;
       table = p.table;
       terminal = p.pair;

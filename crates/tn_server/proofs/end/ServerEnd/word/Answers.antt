@@ -12,7 +12,7 @@ returns-in_err-_sent-clause-cut c =
     let o = old.terms.options in
     rw (p.1, ← c.self.view_is) (cut_after_one _ (word_items (reply_to o c.args.verb c.args.option))
     (negotiation_items (linemode o) false old.pair.settings.flags old.table
-    (record { options = options_after_word o c.args.verb c.args.option; modes = old.terms.modes; wish = old.terms.wish })) c.args.out.now.items
+    (record { options = options_after_word o c.args.verb c.args.option; modes = old.terms.modes; wish = old.terms.wish; opening = old.terms.opening })) c.args.out.now.items
     c.put_word.new.out.items c.settle.new.out.items refl
     (rw c.got-said.ensures.word at c.in_ok-put_word.ensures.ok) (rw
     (c.has_linemode-was_on.ensures, c.settings.ensures, c.got-said.ensures.engine) at c.in_err-_sent.ensures.err))
@@ -23,7 +23,7 @@ returns-clause-out c =
     let o = old.terms.options in
     rw (← c.self.view_is) (spelled_on (word_items (reply_to o c.args.verb c.args.option))
     (negotiation_items (linemode o) false old.pair.settings.flags old.table
-    (record { options = options_after_word o c.args.verb c.args.option; modes = old.terms.modes; wish = old.terms.wish })) c.args.out.now.items
+    (record { options = options_after_word o c.args.verb c.args.option; modes = old.terms.modes; wish = old.terms.wish; opening = old.terms.opening })) c.args.out.now.items
     c.put_word.new.out.items c.settle.new.out.items
     (rw c.got-said.ensures.word at c.in_ok-put_word.ensures.ok) (rw
     (c.has_linemode-was_on.ensures, c.settings.ensures, c.got-said.ensures.engine) at c.in_ok-_sent.ensures.out))
