@@ -289,6 +289,13 @@ tn_code tn_put_sub(uint8_t option, const uint8_t *parameters, size_t count, uint
  * Returns: TN_STARTED, TN_NO_LIMIT, TN_MEMORY. */
 tn_code tn_server_start(tn_server *server, const tn_flags *flags, uint16_t limit) TN_CALL((1, 2));
 
+/* Puts a server end for clients that edit lines themselves into the handle, as tn_server_start does, but opens with DO LINEMODE and DO
+ * NAWS only: it sends neither WILL ECHO nor WILL SUPPRESS-GO-AHEAD, by which a client without LINEMODE sends each key. Such a client edits
+ * and echoes its lines itself, and hides them while the flag ECHO is clear (tn_server_set_echo).
+ *
+ * Returns: TN_STARTED, TN_NO_LIMIT, TN_MEMORY. */
+tn_code tn_server_start_lines(tn_server *server, const tn_flags *flags, uint16_t limit) TN_CALL((1, 2));
+
 /* Takes a piece of the client's stream, cut anywhere; the replies wait to be read. A piece of at most 512 bytes is not too far ahead if
  * at most 511 entries wait: feed no more at once, and take the entries after each.
  *

@@ -125,6 +125,9 @@ def main():
         floods(server)
     with tn.Server() as server, tn.Client(80, 24) as client:
         owns(server, client)
+    with tn.Server(lines=True) as server:
+        server.feed(b"ls\r\n")
+        assert server.read() == b"\xff\xfd\x22\xff\xfd\x1f" and server.take() == (tn.TEXT, b"ls\n")
     assert str(tn.Refused("tn_line_key", tn.MEMORY)) == "tn_line_key: out of memory (code 1)"
     assert refusal(server.read) == tn.NOT_STARTED and refusal(tn.Line, None, 1) == tn.NO_LIMIT
     with tn.Line(tn.Flags(isig=False)) as line:

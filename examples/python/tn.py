@@ -76,6 +76,7 @@ CALLS = {
     "put_option": (c_uint8, c_uint8, *BUFFER),
     "put_sub": (c_uint8, *BYTES, *BUFFER),
     "server_start": (POINTER(Flags), c_uint16),
+    "server_start_lines": (POINTER(Flags), c_uint16),
     "server_feed": BYTES,
     "server_feed_some": (*BYTES, POINTER(c_size_t)),
     "server_pending": (POINTER(c_size_t),),
@@ -195,9 +196,9 @@ class _Held:
 
     kind = ""
 
-    def __init__(self, *arguments):
+    def __init__(self, *arguments, call="start"):
         self._handle = Handle()
-        self._call("start", *arguments)
+        self._call(call, *arguments)
 
     def __enter__(self):
         return self
@@ -359,12 +360,12 @@ class _End(_Edited):
 
 
 class Server(_End):
-    """A server end, with its terminal."""
+    """A server end, with its terminal. With `lines` it opens for clients that edit lines themselves."""
 
     kind = "server"
 
-    def __init__(self, flags=None, limit=255):
-        super().__init__(byref(flags or Flags()), limit)
+    def __init__(self, flags=None, limit=255, lines=False):
+        super().__init__(byref(flags or Flags()), limit, call="start_lines" if lines else "start")
         self._limit = limit
         self._taken = collections.deque()  # entries that were taken, to make room for others
 

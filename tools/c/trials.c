@@ -261,6 +261,30 @@ static void worked_output(void)
     tn_server_free(&server);
 }
 
+/* An end for clients that edit lines themselves asks for LINEMODE and NAWS only, and does not echo their lines. WILL ECHO hides what they
+ * type while the flag ECHO is clear. With LINEMODE it echoes, unless the client edits. */
+static void worked_lines(void)
+{
+    tn_server server = TN_HANDLE;
+    tn_kind kind = TN_NONE;
+    size_t count = 77;
+    SURE(tn_server_start_lines(&server, &standard, 255) == TN_OK);
+    SAYS(&server, "\xff\xfd\x22\xff\xfd\x1f");
+    FEED(&server, "ls\r\n");
+    SURE(tn_server_take(&server, &kind) == TN_OK && kind == TN_TEXT);
+    SURE(tn_server_text(&server, buf, sizeof buf, &count) == TN_OK && count == 3 && memcmp(buf, "ls\n", 3) == 0);
+    SURE(tn_server_pull(&server, 4096, &count) == TN_OK && count == 0);
+    SURE(tn_server_set_echo(&server, false) == TN_OK);
+    SAYS(&server, "\xff\xfb\x01"); /* WILL ECHO */
+    FEED(&server, "\xff\xfd\x01" "secret\r\n"); /* DO ECHO */
+    SURE(tn_server_pull(&server, 4096, &count) == TN_OK && count == 0);
+    SURE(tn_server_set_echo(&server, true) == TN_OK);
+    SAYS(&server, "\xff\xfc\x01"); /* WONT ECHO */
+    FEED(&server, "\xff\xfe\x01\xff\xfb\x22"); /* DONT ECHO, WILL LINEMODE */
+    SURE(tn_server_read(&server, buf, sizeof buf, &count) == TN_OK && count > 3 && memcmp(buf + count - 3, "\xff\xfb\x01", 3) == 0);
+    tn_server_free(&server);
+}
+
 /* A flood of lines is taken as far as each finds room: no more than 511 may wait before a piece of 512 bytes. */
 static void worked_some(void)
 {
@@ -780,6 +804,7 @@ int main(int argc, char **argv)
         worked_spelling();
         worked_server();
         worked_output();
+        worked_lines();
         worked_some();
         worked_client();
         worked_own();

@@ -115,6 +115,7 @@ static bool is_blank(const struct given *g)
     X(LINE, line_start, (h, &standard, limit)) \
     X(DECODER, decoder_start, (h)) \
     X(SERVER, server_start, (h, &standard, limit)) \
+    X(SERVER, server_start_lines, (h, &standard, limit)) \
     X(CLIENT, client_start, (h, 80, 24, limit))
 
 #define FREES(X) \

@@ -22,6 +22,7 @@ use crate::held::Held;
 use crate::parts::{Code, HeldServer, ItemSeen, TerminalFlags};
 use std::alloc::Global;
 use tn_discipline::{Chars, Limit, Settings};
+use tn_server::Opening;
 
 /// Puts a server end into the handle, over a terminal with these flags and the standard special
 /// characters, whose lines have at most `limit` bytes, 255 to 4,095. Its opening messages wait to
@@ -34,7 +35,43 @@ pub extern "C" fn tn_server_start(
     limit: u16,
 ) -> u32
     ensures { Starts handle.old.held handle.new.held result (is_limit limit)
-        (λ held. HoldsServer held (IsOpened (record {
+        (λ held. HoldsServer held (IsOpened Opening.Keys (record {
+          settings = record { flags = flags_given flags.now; chars = standard_characters };
+          limit = limit;
+        }))) }
+{
+    start(alloc, Opening::Keys, handle, flags, limit)
+}
+
+/// Puts a server end for clients that edit lines themselves into the handle, over a terminal with
+/// these flags and the standard special characters, whose lines have at most `limit` bytes, 255 to
+/// 4,095. Its opening messages, DO LINEMODE and DO NAWS, wait to be read.
+#[unsafe(no_mangle)]
+pub extern "C" fn tn_server_start_lines(
+    alloc: Global,
+    handle: &mut Handle,
+    flags: &TerminalFlags,
+    limit: u16,
+) -> u32
+    ensures { Starts handle.old.held handle.new.held result (is_limit limit)
+        (λ held. HoldsServer held (IsOpened Opening.Lines (record {
+          settings = record { flags = flags_given flags.now; chars = standard_characters };
+          limit = limit;
+        }))) }
+{
+    start(alloc, Opening::Lines, handle, flags, limit)
+}
+
+// Puts a server end into the handle that opens so.
+fn start(
+    alloc: Global,
+    opening: Opening,
+    handle: &mut Handle,
+    flags: &TerminalFlags,
+    limit: u16,
+) -> u32
+    ensures { Starts handle.old.held handle.new.held result (is_limit limit)
+        (λ held. HoldsServer held (IsOpened opening (record {
           settings = record { flags = flags_given flags.now; chars = standard_characters };
           limit = limit;
         }))) }
@@ -49,7 +86,7 @@ pub extern "C" fn tn_server_start(
         flags: flags.flags(),
         chars: Chars::standard(),
     };
-    let Ok(server) = HeldServer::start(alloc, settings, limit) else {
+    let Ok(server) = HeldServer::start(alloc, opening, settings, limit) else {
         return Code::Memory.number();
     };
     handle.hold(alloc, Held::Server(server)).number()

@@ -11,6 +11,7 @@ use Rattle.tn_pty.specs.Terminal.{fitting_count, queue_symbols}
 use Rattle.tn_server.specs.{Answering.{Feeds, StopsWithin}, Replies.opening, Steps.LacksRoomFor, Terms.chars}
 use Rattle.tn_server.specs.Calls.{End, LeadsTo, call_fault, char_fault_at, mask_fault}
 use Rattle.tn_server.specs.Events.{History, Event, begun, took, pulled, wished, char_set, mask_set}
+use Rattle.tn_server.specs.declared.openings.Opening.{Opening}
 use Rattle.tn_server.specs.{Lines.waiting, Steps.{end_after, end_after_write, end_after_pull, says, sends_mode_now}}
 use Rattle.tn_server.specs.declared.{faults.ServerFault.ServerFault, wishes.Editing.Editing}
 use Rattle.tn_c.specs.parts.{Bytes.Copies, Changes.IsSeen, Entries.{kind_number, wiped_entry}}
@@ -225,13 +226,13 @@ abbrev pub IsServerChar : HeldServer → Func → ℕ → Type 0
 IsServerChar server func value =
     (h : History) → LeadsTo h server.end → value ≡ char_number (slot (chars h) func)
 
--- The server end was just opened, and its opening messages wait.
-pub record IsOpened (canon : Canon) (held : HeldServer) : Type 0 where
-  pub leads : LeadsTo (begun canon) held.end
+-- The server end was just opened so, and its opening messages wait.
+pub record IsOpened (o : Opening) (canon : Canon) (held : HeldServer) : Type 0 where
+  pub leads : LeadsTo (begun o canon) held.end
   pub reads : nvt.LeadsTo [] [] held.end.decoder
   pub runs : IsFalse held.end.failed
   pub opens : IsFalse held.end.terminal.closed
-  pub pending : held.pending.items ≡ spells opening
+  pub pending : held.pending.items ≡ spells (opening o)
   pub entry : held.entry ≡ None
   pub seen : (h : History) → LeadsTo h held.end → IsSeen h held.seen
   pub owned : OwnsNone held.owned

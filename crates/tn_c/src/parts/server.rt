@@ -27,7 +27,7 @@ use std::alloc::Global;
 use tn_codes::{Func, Mask};
 use tn_discipline::{CharFault, Entry, Limit, Settings};
 use tn_pty::{PtyFault, QUEUE_SYMBOLS};
-use tn_server::{Editing, ServerEnd, ServerFault};
+use tn_server::{Editing, Opening, ServerEnd, ServerFault};
 
 /// The number of octets of a forward mask (RFC 1184, section 2.3).
 const MASK_OCTETS: usize = 32;
@@ -91,17 +91,23 @@ pub struct HeldServer {
 }
 
 impl HeldServer {
-    /// Starts an end over a terminal with these settings; its opening messages are to be sent.
+    /// Starts an end that opens so, over a terminal with these settings; its opening messages are to
+    /// be sent.
     ///
     /// # Errors
     ///
     /// - `Memory`: there is no memory for the terminal or for the messages.
-    pub fn start(alloc: Global, settings: Settings, limit: Limit) -> Result<HeldServer, ServerFault>
-        ensures ok { IfOk result (IsOpened (record { settings = settings; limit = limit })) }
+    pub fn start(
+        alloc: Global,
+        opening: Opening,
+        settings: Settings,
+        limit: Limit,
+    ) -> Result<HeldServer, ServerFault>
+        ensures ok { IfOk result (IsOpened opening (record { settings = settings; limit = limit })) }
         ensures fault { IfErr result (λ f. f ≡ fault.Memory) }
     {
         let mut pending = Vec::new(alloc);
-        let end = ServerEnd::start(alloc, settings, limit, &mut pending)?;
+        let end = ServerEnd::open(opening, alloc, settings, limit, &mut pending)?;
         let seen = seen_of(&end);
         Ok(HeldServer {
             end,

@@ -163,6 +163,7 @@ extern "C" {
     pub fn tn_put_option(word: u8, option: u8, buf: *mut u8, size: usize, length: *mut usize) -> tn_code;
     pub fn tn_put_sub(option: u8, parameters: *const u8, count: usize, buf: *mut u8, size: usize, length: *mut usize) -> tn_code;
     pub fn tn_server_start(server: *mut tn_server, flags: *const tn_flags, limit: u16) -> tn_code;
+    pub fn tn_server_start_lines(server: *mut tn_server, flags: *const tn_flags, limit: u16) -> tn_code;
     pub fn tn_server_feed(server: *mut tn_server, bytes: *const u8, length: usize) -> tn_code;
     pub fn tn_server_feed_some(server: *mut tn_server, bytes: *const u8, length: usize, taken: *mut usize) -> tn_code;
     pub fn tn_server_pending(server: *const tn_server, count: *mut usize) -> tn_code;

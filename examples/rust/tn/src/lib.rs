@@ -282,6 +282,13 @@ impl Server {
         Ok(Server { held, limit, taken: VecDeque::new(), items: VecDeque::new() })
     }
 
+    /// Starts an end for clients that edit lines themselves: it opens with DO LINEMODE and DO NAWS only.
+    pub fn start_lines(flags: &Flags, limit: u16) -> Result<Server> {
+        let mut held = raw::tn_server { tn_private: std::ptr::null_mut() };
+        done(unsafe { raw::tn_server_start_lines(&mut held, flags, limit) })?;
+        Ok(Server { held, limit, taken: VecDeque::new(), items: VecDeque::new() })
+    }
+
     /// Takes bytes that came from the client, cut anywhere and as many as there are: entries and items of owned options beyond those that
     /// may wait are kept in this object.
     pub fn feed(&mut self, mut piece: &[u8]) -> Result<()> {

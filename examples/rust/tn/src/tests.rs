@@ -65,6 +65,15 @@ fn both_ends_tell_of_themselves() -> Result<()> {
 }
 
 #[test]
+fn a_server_opens_for_lines() -> Result<()> {
+    let mut server = Server::start_lines(&STANDARD_FLAGS, 255)?;
+    server.feed(b"ls\r\n")?;
+    assert_eq!(server.peek()?, b"\xff\xfd\x22\xff\xfd\x1f");
+    assert_eq!(server.take()?, text(b"ls\n"));
+    Ok(())
+}
+
+#[test]
 fn a_flood_is_taken_whole() -> Result<()> {
     let mut server = Server::start(&STANDARD_FLAGS, 255)?;
     server.feed(&[b"\n".repeat(5000), b"\x03x\r\0".to_vec()].concat())?;
