@@ -3,6 +3,7 @@ use Rattle.std.specs.Prelude.{◌≡◌, ◌≢◌, ◌⊎◌, ℕ, ◌+◌, ◌
 use Rattle.std.specs.{Prelude.{◌++◌, map, length, codes}, Io.KnownBytes.Appends}
 use Rattle.hex.specs.Hex.{encode_lower}
 use Rattle.tn_discipline.specs.declared.reads.Entry.{Entry}
+use Rattle.tn_server.specs.declared.openings.Opening.TheVariants.{Keys}
 use Rattle.tn_world.specs.{Headline.{NothingInFlight, IsSettled}, Opened.{IsOpened, with_new_lists}}
 use Rattle.tn_world.specs.{Settling.{RunsRounds, RefusesRound}, Worlds.{World, Runs}}
 use Rattle.tn_world.specs.declared.{events.Event.Event, faults.Cause.Cause}
@@ -115,7 +116,7 @@ RunsLines old (line ∷ lines) text new =
 -- window of 80 by 24, and printed this text.
 pub record LeadsTo (lines : List (List ℕ)) (text : List ℕ) (new : World) : Type 0 where
   pub start : World
-  pub opened : IsOpened standard 80 24 start
+  pub opened : IsOpened Keys standard 80 24 start
   pub plays : RunsLines start lines text new
 
 -- all of these lines were done and printed this text

@@ -13,6 +13,7 @@ use crate::streams::{read_whole, write_whole};
 use std::alloc::{AllocError, Global};
 use tn_cores::streams::{Drain, Source};
 use tn_discipline::{Limit, Settings};
+use tn_server::Opening;
 use tn_world::World;
 
 /// Reads a script of one command a line, runs it in a world that is opened with standard settings,
@@ -70,6 +71,7 @@ fn play_lines(
 {
     match World::open(
         alloc,
+        Opening::Keys,
         Settings::standard(),
         USUAL_WIDTH,
         USUAL_HEIGHT,
@@ -87,7 +89,7 @@ fn play_in(
     lines: &[&[u8]],
     printed: &mut Vec<u8>,
 ) -> Result<Option<CliFault>, AllocError>
-    requires { IsOpened standard 80 24 world.old }
+    requires { IsOpened Opening.Keys standard 80 24 world.old }
     ensures { IfOk result (λ end. play.AppendsPrint
         (play.EndsWith (map (λ line. line.now) lines.now) end) printed.old.items printed.new.items) }
 {

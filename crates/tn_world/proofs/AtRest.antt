@@ -17,12 +17,13 @@ agree_at_rest w s none nothing =
     let y = s.to_client none.1 in
     let silent : x.0 ≡ [] = no_items w.server.decoder x.0 (subst (λ f. InFlight w.server.decoder f x.0) nothing.0 x.1) in
     let quiet : y.0 ≡ [] = no_items w.client.decoder y.0 (subst (λ f. InFlight w.client.decoder f y.0) nothing.1 y.1) in
+    let began = s.words none.0 none.1 in
     let a = server_terms.agreement in
     let b = client_terms.agreement in
     let l : LeadTo a b (engines w [] []) =
     subst (λ (there : List Item). LeadTo a b (engines w there [])) silent
     (subst (λ (back : List Item). LeadTo a b (engines w x.0 back)) quiet
-    (moves-LeadTo a b opening_pair (engines w x.0 y.0) (s.words none.0 none.1) (opening_leads b))) in
+    (moves-LeadTo a b (opening_pair began.opening) (engines w x.0 y.0) began.talk (opening_leads began.opening b))) in
     let on : (side : Side) (code : ℕ) (option : Known) → known_option code ≡ Some option → AgreeOn w side code =
     λ side code option is. LeadTo-agree a b (engines w [] []) side code option is l refl refl in
     record {

@@ -7,7 +7,7 @@ use Rattle.tn_option.specs.Options.{Options, new_options}
 use Rattle.tn_option.proofs.lemmas.Agreement.{same-Moves}
 use Rattle.tn_linemode.specs.OptionWords.{words_in}
 use Rattle.tn_server.specs.Course as server_courses
-use Rattle.tn_server.specs.{Terms.{Terms, opening_options}, Replies.opening, declared.faults.ServerFault.ServerFault}
+use Rattle.tn_server.specs.{Terms.{Terms, opening_options}, Replies.opening, declared.{faults.ServerFault.ServerFault, openings.Opening.Opening}}
 use Rattle.tn_client.specs.Terms as client_terms
 use Rattle.tn_server.specs.Events as server_calls
 use Rattle.tn_server.specs.Answering as server_answers
@@ -126,19 +126,19 @@ asks_refused old end e later out fault goes cause lacks a b w is =
     ((goes, record { cause = cause; grows = λ m. says_something old.server e out (lacks m) }), rw (a, b) refl)
 
 -- the opening messages are in flight to a client that has begun
-opened_words : (here there : Options) → here ≡ opening_options → there ≡ new_options client_terms.agreement → Lead here there [] (words_in opening)
-opened_words here there a b =
-    subst (λ (o : Options). Lead o there [] (words_in opening)) (sym a)
-    (subst (λ (o : Options). Lead opening_options o [] (words_in opening)) (sym b)
-    (same-Moves opening_pair))
+opened_words : (opened : Opening) (here there : Options) → here ≡ opening_options opened → there ≡ new_options client_terms.agreement → Lead here there [] (words_in (opening opened))
+opened_words opened here there a b =
+    subst (λ (o : Options). Lead o there [] (words_in (opening opened))) (sym a)
+    (subst (λ (o : Options). Lead (opening_options opened) o [] (words_in (opening opened))) (sym b)
+    (record { opening = opened; talk = same-Moves (opening_pair opened) }))
 
 -- just opened: both ends are where they start
-pub open_sound : (canon : Canon) (width height : ℕ) (w : World) → server.LeadsTo (server_calls.begun canon) w.server → LeadsTo [] [] w.server.decoder
-    → client.LeadsTo (client_calls.begun width height canon.limit) w.client → LeadsTo [] [] w.client.decoder → w.to_server ≡ [] → w.to_client ≡ spells opening
+pub open_sound : (o : Opening) (canon : Canon) (width height : ℕ) (w : World) → server.LeadsTo (server_calls.begun o canon) w.server → LeadsTo [] [] w.server.decoder
+    → client.LeadsTo (client_calls.begun width height canon.limit) w.client → LeadsTo [] [] w.client.decoder → w.to_server ≡ [] → w.to_client ≡ spells (opening o)
     → w.server.terminal.closed ≡ false → HasPast w
-open_sound canon width height w stands reads begins began nothing said opens =
-    made w (server_calls.begun canon) stands
-    (λ r. (server_courses.started canon, record { history = server_calls.begun canon; reads_as = refl; leads = stands; reads = reads }))
+open_sound o canon width height w stands reads begins began nothing said opens =
+    made w (server_calls.begun o canon) stands
+    (λ r. (server_courses.started o canon, record { history = server_calls.begun o canon; reads_as = refl; leads = stands; reads = reads }))
     (λ r. (
       client_courses.started width height canon.limit,
       record {
@@ -151,16 +151,16 @@ open_sound canon width height w stands reads begins began nothing said opens =
     (λ r. begins.limit ∙ sym stands.limit)
     (λ r. opens)
     (λ r. ([], subst (λ x. InFlight w.server.decoder x []) (sym nothing) (start w.server.decoder reads)))
-    (λ r. (opening, said_behind w.client.decoder [] w.to_client [] opening said (sent-fit (server_calls.begun canon)) (start w.client.decoder began)))
-    (λ a b. opened_words w.server.terms.options w.client.options (ap (λ (t : Terms). t.options) stands.terms) begins.options)
+    (λ r. (opening o, said_behind w.client.decoder [] w.to_client [] (opening o) said (sent-fit (server_calls.begun o canon)) (start w.client.decoder began)))
+    (λ a b. opened_words o w.server.terms.options w.client.options (ap (λ (t : Terms). t.options) stands.terms) begins.options)
     (λ a b. All-nil WishesNothing)
 
 -- two ends that are just opened are an opened world
-pub opened_world : (canon : Canon) (width height : ℕ) (end : server.End) (other : client.End) (there here typed shown echoed : List ℕ) (taken : List Entry)
-    → server.LeadsTo (server_calls.begun canon) end → LeadsTo [] [] end.decoder → end.failed ≡ false → end.terminal.closed ≡ false
+pub opened_world : (o : Opening) (canon : Canon) (width height : ℕ) (end : server.End) (other : client.End) (there here typed shown echoed : List ℕ) (taken : List Entry)
+    → server.LeadsTo (server_calls.begun o canon) end → LeadsTo [] [] end.decoder → end.failed ≡ false → end.terminal.closed ≡ false
     → client.LeadsTo (client_calls.begun width height canon.limit) other → LeadsTo [] [] other.decoder → other.failed ≡ false → there ≡ []
-    → here ≡ spells opening → typed ≡ [] → taken ≡ [] → shown ≡ [] → echoed ≡ []
-    → IsOpened canon width height (record {
+    → here ≡ spells (opening o) → typed ≡ [] → taken ≡ [] → shown ≡ [] → echoed ≡ []
+    → IsOpened o canon width height (record {
       server = end;
       client = other;
       server_stopped = false;
@@ -172,9 +172,9 @@ pub opened_world : (canon : Canon) (width height : ℕ) (end : server.End) (othe
       shown = shown;
       echoed = echoed;
     })
-opened_world canon width height end other there here typed shown echoed taken stands reads runs opens begins began goes a b c d e f =
+opened_world o canon width height end other there here typed shown echoed taken stands reads runs opens begins began goes a b c d e f =
     record {
-      server = record { history = server_calls.begun canon; reads_as = refl; leads = stands; reads = reads };
+      server = record { history = server_calls.begun o canon; reads_as = refl; leads = stands; reads = reads };
       client = record { history = client_calls.begun width height canon.limit; reads_as = refl; leads = begins; reads = began };
       takes_keys = opens;
       server_runs = runs;

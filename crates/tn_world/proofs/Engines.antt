@@ -5,7 +5,7 @@ use Rattle.std.proofs.lemmas.List.Elements.{All-nil, All-cons}
 use Rattle.std.specs.Prelude.{All}
 use Rattle.tn_codes.specs.declared.codes.Verb.{Verb, TheVariants.{Will, DoIt}}
 use Rattle.tn_discipline.specs.declared.termios.Flags.{Flags}
-use Rattle.tn_server.specs.{declared.wishes.Editing.Editing, Replies.{asked_word_items, echo_items}}
+use Rattle.tn_server.specs.{declared.{wishes.Editing.Editing, openings.Opening.{Opening, TheVariants.{Keys, Lines}}}, Replies.{asked_word_items, echo_items}}
 use Rattle.tn_nvt.specs.declared.items.Item.{Item, TheVariants.{Neg, Sub}}
 use Rattle.tn_option.specs.{QMethod.{cell, side_of, cause_of, wish_for, word_on, word_off, word_of_answer, result_of_answer}, declared.known.Known.Known}
 use Rattle.tn_option.specs.Options.{known_option, cell_now, word_now, answer_now, answer_to, Options, new_options, options_after_word, options_after_wish}
@@ -109,9 +109,10 @@ unfolding options_after_word
 word_keeps_state o side verb option e = LeavesOthers-moved o (side_of verb) option (cause_of verb) side 34 (inl (other_code option e))
 
 -- the server agrees to the client's LINEMODE
-begun_agrees : agrees_to server_terms.opening_options Them 34 ≡ true
+begun_agrees : (o : Opening) → agrees_to (server_terms.opening_options o) Them 34 ≡ true
 unfolding new_options options_after_wish agrees_to
-begun_agrees = refl
+begun_agrees Keys = refl
+begun_agrees Lines = refl
 
 heard_agrees : (o : Options) (item : Item) → agrees_to (server_terms.options_after o (server_calls.got item)) Them 34 ≡ agrees_to o Them 34
 heard_agrees o (Neg verb option) = word_agrees o Them verb option
@@ -122,10 +123,10 @@ settled_agrees : (f : Flags) (t : server_terms.Terms) (o : Options) (ed : Option
     → agrees_to (server_terms.terms_by f t o ed set).options Them 34 ≡ agrees_to o Them 34
 settled_agrees f t o ed set =
     let wish = server_terms.wish_after f t.wish ed in
-    echo_agrees (server_terms.asks_echo t.options o (server_terms.mask_told t o wish) set) (server_terms.wants_echo (server_terms.asked_mask_of o wish) f) o
+    echo_agrees (server_terms.asks_echo t.options o (server_terms.mask_told t o wish) set) (server_terms.wants_echo t.opening o (server_terms.asked_mask_of o wish) f) o
 
 pub server_agrees : (h : server_calls.History) → agrees_to (server_terms.options h) Them 34 ≡ true
-server_agrees (server_calls.begun canon) = begun_agrees
+server_agrees (server_calls.begun o canon) = begun_agrees o
 server_agrees (server_calls.next h (server_calls.got item)) =
     settled_agrees (server_terms.flags h) (server_terms.terms h) (server_terms.options_after (server_terms.options h) (server_calls.got item))
     (server_terms.wish_at (server_terms.options h) (server_calls.got item)) false

@@ -103,7 +103,7 @@ module _ (h : History) (verb : Verb) (code : ℕ) where
   later = options_after_word here verb code
 
   abbrev pub wanted : Bool
-  wanted = wants_echo (asked_mask_of later (terms h).wish) (flags h)
+  wanted = wants_echo (terms h).opening later (asked_mask_of later (terms h).wish) (flags h)
 
   abbrev pub due : Bool
   due = differ (linemode here) (linemode later)
@@ -208,9 +208,9 @@ other_silent h item items there vs same none p =
 step_silent : (h : History) (item : Item) (items : List Item) (there : Options) (vs : List (Verb × ℕ)) → WishesNothing item → AsksNothing item
     → IsCalm (pair (options h) there (words_in (item ∷ items)) vs) → IsSilent h item items there vs
 step_silent h (Neg verb code) items there vs w a p =
-    let u : IsUnanswered (options h) ((verb, code) ∷ words_in items) = subst (λ (x : EnginePair). IsUnanswered x.here x.to_here) (sym p.1) (calm_answers p.0) in
+    let u : IsUnanswered (options h) ((verb, code) ∷ words_in items) = subst (λ (x : EnginePair). IsUnanswered x.here x.to_here) (sym p.is) (calm_answers p.suppressed p.calm) in
     let on : IsCalm (engine_step got_here (pair (options h) there ((verb, code) ∷ words_in items) vs)) =
-    subst (λ (x : EnginePair). IsCalm (engine_step got_here x)) (sym p.1) (calm_on p.0) in
+    subst (λ (x : EnginePair). IsCalm (engine_step got_here x)) (sym p.is) (calm_on p.suppressed p.calm) in
     record {
       none = word_silent h verb code u.0 u.1;
       calm =

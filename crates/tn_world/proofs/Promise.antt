@@ -2,6 +2,7 @@
 use Rattle.std.proofs.Common.{◌≡◌, inl, inr, ℕ, List, [], ◌∷◌, ◌++◌, ◌≤◌, ◌<◌, ◌+◌, suc, take, drop, refl, sym, ap, ◌∙◌, subst, length, arith}
 use Rattle.std.proofs.{Math.{ListN.get_or, Seq.drop-cons}, lemmas.List.{take_more, take_all, take-append-drop, length-take-le}}
 use Rattle.tn_discipline.specs.{declared.reads.Entry.Entry, Canon.Canon, Characters.standard_characters}
+use Rattle.tn_server.specs.declared.openings.Opening.{Opening}
 use Rattle.tn_world.specs.{Past.HasPast, Opened.{IsOpened, with_new_lists}, declared.{events.Event.Event, faults.Cause.Cause}, relation.Relation.IsRelated}
 use Rattle.tn_world.specs.Headline.{local_entries, local_half, PassesQuietly, IsQuiet, AreQuietEvents, IsBeginning, Follows, NoneFailed, IsSettled}
 use Rattle.tn_world.specs.{Headline.{entries_made, half_made, Headline}, Worlds.{World, RunsEvent, Refuses, Runs, StopsWithin, canon_of}, Flight.InFlight}
@@ -23,7 +24,7 @@ related_headline s start w events runs h p = record {
 -- the relation holds at each beginning
 begins_related : (s : Canon) (w : World) → IsBeginning s w → IsRelated s w
 begins_related s w (inl m) = mark_holds s w m
-begins_related s w (inr o) = opened_holds s o.width o.height w o.standard o.opened
+begins_related s w (inr o) = opened_holds o.opening s o.width o.height w o.standard o.opened
 
 begins_running : (s : Canon) (w : World) → IsBeginning s w → NoneFailed w
 begins_running s w (inl m) = (m.settled.idle.server_failed, m.settled.idle.client_failed)
@@ -62,9 +63,9 @@ follows_on s old new events f p = record {
   passes = passes_on f.start old new f.events events f.passes p;
 }
 
-pub just_opened : (s : Canon) (width height : ℕ) (w : World) → IsOpened s width height w → s.settings.chars ≡ standard_characters → Follows s w
-just_opened s width height w o standard =
-    record { start = w; begins = inr (record { standard = standard; width = width; height = height; opened = o }); events = []; passes = refl }
+pub just_opened : (o : Opening) (s : Canon) (width height : ℕ) (w : World) → IsOpened o s width height w → s.settings.chars ≡ standard_characters → Follows s w
+just_opened o s width height w is standard =
+    record { start = w; begins = inr (record { standard = standard; width = width; height = height; opening = o; opened = is }); events = []; passes = refl }
 
 -- a run of quiet events
 pub runs_pass : (old new : World) (events : List Event) → IsQuiet old events → Runs old events new → PassesQuietly old events new

@@ -9,7 +9,8 @@ use Rattle.tn_server.specs.Terms as terms
 use Rattle.tn_linemode.specs.Words.{differ}
 use Rattle.tn_world.proofs.Stages.{Question, linemode, naws, ours, theirs, echo, Progress, before, done, asks, grants, next, left, Lead, server_at, opening_at}
 use Rattle.tn_world.proofs.Stages.{IsOpening, both_on, both_off, asked_on, asked_off, granted_on, granted_off, pair_at, Stage, IsAtStage, same_question}
-use Rattle.tn_world.proofs.Stages.{not_done, wish_step}
+use Rattle.tn_world.proofs.Stages.{not_done, wish_step, go_ahead, server_options, LineStage, asks_both, asks_size, asks_none, waits_asks, waits_none, line_pair}
+use Rattle.tn_world.proofs.Stages.{unasked, asked, untold, told, consented}
 
 -- WHILE A SERVER READS, once no option message was on its way to the client: the opening, all of whose
 -- questions the client has received
@@ -38,17 +39,58 @@ stage_of w_asked_off = asked_off false
 stage_of (w_granted_on b) = granted_on b
 stage_of (w_granted_off b) = granted_off b
 
+pub record IsHeard (e : EnginePair) : Type 0 where
+  pub suppressed : Bool
+  pub waiting : Waiting
+  pub is : e ≡ pair_at suppressed (stage_of waiting)
+
+-- WHILE A SERVER READS after an opening for lines: both answers, or that of NAWS
+pub data LineReading : Type 0 where
+  both_untold : LineReading
+  both_agreed : Bool → LineReading
+  one_untold : LineReading
+  one_told : LineReading
+  one_agreed : Bool → LineReading
+
+abbrev pub line_of : LineReading → LineStage
+line_of both_untold = asks_none untold
+line_of (both_agreed b) = asks_none (consented b)
+line_of one_untold = waits_none untold
+line_of one_told = waits_none (told false)
+line_of (one_agreed b) = waits_none (consented b)
+
+pub record IsLineReading (e : EnginePair) : Type 0 where
+  pub reading : LineReading
+  pub is : e ≡ line_pair (line_of reading)
+
 abbrev pub IsWaiting : EnginePair → Type 0
-IsWaiting e = IsReading e ⊎ ((s : Waiting) × (e ≡ pair_at (stage_of s)))
+IsWaiting e = IsReading e ⊎ (IsLineReading e ⊎ IsHeard e)
+
+heard_at : (g : Bool) (w : Waiting) (e : EnginePair) → e ≡ pair_at g (stage_of w) → IsWaiting e
+heard_at g w e is = inr (inr (record { suppressed = g; waiting = w; is = is }))
+
+line_at : (r : LineReading) (e : EnginePair) → e ≡ line_pair (line_of r) → IsWaiting e
+line_at r e is = inr (inl (record { reading = r; is = is }))
 
 -- if no message is on its way to the client
-later_heard : (s : Stage) → (pair_at s).to_there ≡ [] → (w : Waiting) × (pair_at s ≡ pair_at (stage_of w))
-later_heard both_on e = (w_on, refl)
-later_heard both_off e = (w_off, refl)
-later_heard (asked_on b) e = absurd (cc)
-later_heard (asked_off b) e = absurd (cc)
-later_heard (granted_on b) e = (w_granted_on b, refl)
-later_heard (granted_off b) e = (w_granted_off b, refl)
+later_heard : (g : Bool) (s : Stage) → (pair_at g s).to_there ≡ [] → IsWaiting (pair_at g s)
+later_heard g both_on e = heard_at g w_on _ refl
+later_heard g both_off e = heard_at g w_off _ refl
+later_heard g (asked_on b) e = absurd (cc)
+later_heard g (asked_off b) e = absurd (cc)
+later_heard g (granted_on b) e = heard_at g (w_granted_on b) _ refl
+later_heard g (granted_off b) e = heard_at g (w_granted_off b) _ refl
+
+line_heard : (s : LineStage) → (line_pair s).to_there ≡ [] → IsWaiting (line_pair s)
+line_heard (asks_both e) none = absurd (cc)
+line_heard (asks_size e) none = absurd (cc)
+line_heard (asks_none untold) none = line_at both_untold _ refl
+line_heard (asks_none (told b)) none = absurd (cc)
+line_heard (asks_none (consented b)) none = line_at (both_agreed b) _ refl
+line_heard (waits_asks e) none = absurd (cc)
+line_heard (waits_none untold) none = line_at one_untold _ refl
+line_heard (waits_none (told b)) none = absurd (cc)
+line_heard (waits_none (consented b)) none = line_at (one_agreed b) _ refl
 
 all_asked : (p : Progress) → map asks (left p) ≡ [] → p ≡ done
 all_asked done e = refl
@@ -71,9 +113,8 @@ opening_heard e o none =
 
 pub all_heard : (e : EnginePair) → IsAtStage e → e.to_there ≡ [] → IsWaiting e
 all_heard e (inl o) none = inl (opening_heard e o none)
-all_heard e (inr s) none =
-    let w = later_heard s.0 (sym (ap (λ (x : EnginePair). x.to_there) s.1) ∙ none) in
-    inr (w.0, s.1 ∙ w.1)
+all_heard e (inr (inl l)) none = subst IsWaiting (sym l.is) (line_heard l.stage (sym (ap (λ (x : EnginePair). x.to_there) l.is) ∙ none))
+all_heard e (inr (inr s)) none = subst IsWaiting (sym s.is) (later_heard s.suppressed s.stage (sym (ap (λ (x : EnginePair). x.to_there) s.is) ∙ none))
 
 -- the server reads the next message, and if LINEMODE comes on requests its ECHO or rejects it
 abbrev pub echo_due : Bool → Bool → EnginePair → EnginePair
@@ -104,8 +145,8 @@ one_read wanted linemode b going lead =
 one_read wanted naws b going lead = reading ours b going lead
 one_read wanted ours b going lead = reading theirs b going lead
 one_read wanted theirs b going lead = reading echo b going lead
-one_read wanted echo false [] lead = inr (w_on, refl)
-one_read wanted echo true [] lead = inr (w_asked_off, refl)
+one_read wanted echo false [] lead = heard_at true w_on _ refl
+one_read wanted echo true [] lead = heard_at true w_asked_off _ refl
 one_read wanted echo b (q ∷ going) lead = absurd (not_done q lead.0)
 
 reading_on : (wanted : Bool) (q : Question) (b : Bool) (going : List Question) → Lead (before q) going done
@@ -116,22 +157,33 @@ reading_on wanted q b (p ∷ going) lead =
     subst (λ (r : Question). IsWaiting (heard_by wanted (opening_at q b (r ∷ going) done))) (sym same)
     (one_read wanted q b going (subst (λ (r : Question). Lead (next r) going done) same lead.1))
 
-later_on : (wanted : Bool) (s : Waiting) → (w : Waiting) × (heard_by wanted (pair_at (stage_of s)) ≡ pair_at (stage_of w))
+later_on : (wanted g : Bool) (s : Waiting) → IsWaiting (heard_by wanted (pair_at g (stage_of s)))
 unfolding options_after_word reply_to state_of cell
-later_on wanted w_on = (w_on, refl)
-later_on wanted w_off = (w_off, refl)
-later_on wanted w_asked_on = (w_asked_on, refl)
-later_on wanted w_asked_off = (w_asked_off, refl)
-later_on wanted (w_granted_on false) = (w_on, refl)
-later_on wanted (w_granted_on true) = (w_asked_off, refl)
-later_on wanted (w_granted_off false) = (w_off, refl)
-later_on wanted (w_granted_off true) = (w_asked_on, refl)
+later_on wanted g w_on = heard_at g w_on _ refl
+later_on wanted g w_off = heard_at g w_off _ refl
+later_on wanted g w_asked_on = heard_at g w_asked_on _ refl
+later_on wanted g w_asked_off = heard_at g w_asked_off _ refl
+later_on wanted g (w_granted_on false) = heard_at g w_on _ refl
+later_on wanted g (w_granted_on true) = heard_at g w_asked_off _ refl
+later_on wanted g (w_granted_off false) = heard_at g w_off _ refl
+later_on wanted g (w_granted_off true) = heard_at g w_asked_on _ refl
+
+line_on : (wanted : Bool) (r : LineReading) → IsWaiting (heard_by wanted (line_pair (line_of r)))
+unfolding options_after_word reply_to options_after_wish answer_to state_of cell
+line_on true both_untold = line_at one_told _ refl
+line_on false both_untold = line_at one_untold _ refl
+line_on true (both_agreed true) = line_at (one_agreed false) _ refl
+line_on true (both_agreed false) = line_at (one_agreed false) _ refl
+line_on false (both_agreed true) = line_at (one_agreed true) _ refl
+line_on false (both_agreed false) = line_at (one_agreed true) _ refl
+line_on wanted one_untold = heard_at false w_off _ refl
+line_on wanted one_told = heard_at false w_asked_on _ refl
+line_on wanted (one_agreed b) = heard_at false (w_granted_on b) _ refl
 
 pub waits_on : (wanted : Bool) (e : EnginePair) → IsWaiting e → IsWaiting (heard_by wanted e)
 waits_on wanted e (inl o) = subst (λ (x : EnginePair). IsWaiting (heard_by wanted x)) (sym o.is) (reading_on wanted o.waits o.queued o.going o.lead)
-waits_on wanted e (inr s) =
-    let w = later_on wanted s.0 in
-    inr (w.0, ap (λ (x : EnginePair). heard_by wanted x) s.1 ∙ w.1)
+waits_on wanted e (inr (inl l)) = subst (λ (x : EnginePair). IsWaiting (heard_by wanted x)) (sym l.is) (line_on wanted l.reading)
+waits_on wanted e (inr (inr s)) = subst (λ (x : EnginePair). IsWaiting (heard_by wanted x)) (sym s.is) (later_on wanted s.suppressed s.waiting)
 
 -- THE END of what it reads: no contrary request is queued
 abbrev pub is_opposite : QState → Bool
@@ -142,25 +194,43 @@ is_opposite WantNoOpposite = true
 is_opposite WantYesEmpty = false
 is_opposite WantYesOpposite = true
 
+abbrev pub is_awaited : QState → Bool
+is_awaited WantYesEmpty = true
+is_awaited WantYesOpposite = true
+is_awaited _ = false
+
 abbrev pub is_pending : Options → Bool
-is_pending o = not (is_yes o.them.suppress_go_ahead.state) || is_opposite o.us.echo.state
+is_pending o = not (is_yes o.them.naws.state) || (is_awaited o.them.suppress_go_ahead.state || is_opposite o.us.echo.state)
+
+-- once all is answered, only ECHO may be pending
+by_echo : (g : Bool) (q : QState) → is_pending (server_options Yes Yes (go_ahead g) (go_ahead g) q) ≡ is_opposite q
+by_echo true q = refl
+by_echo false q = refl
 
 some_going : (q : Question) (going : List Question) → Lead (before q) going done → map grants going ≡ [] → ⊥
 some_going q [] lead e = not_done q (sym lead)
 some_going q (p ∷ going) lead e = cc
 
-later_none : (s : Waiting) → (pair_at (stage_of s)).to_here ≡ [] → is_pending (pair_at (stage_of s)).here ≡ false
-later_none w_on e = refl
-later_none w_off e = refl
-later_none w_asked_on e = refl
-later_none w_asked_off e = refl
-later_none (w_granted_on b) e = absurd (cc)
-later_none (w_granted_off b) e = absurd (cc)
+later_none : (g : Bool) (s : Waiting) → (pair_at g (stage_of s)).to_here ≡ [] → is_pending (pair_at g (stage_of s)).here ≡ false
+later_none g w_on e = by_echo g Yes
+later_none g w_off e = by_echo g No
+later_none g w_asked_on e = by_echo g WantYesEmpty
+later_none g w_asked_off e = by_echo g WantNoEmpty
+later_none g (w_granted_on b) e = absurd (cc)
+later_none g (w_granted_off b) e = absurd (cc)
+
+line_going : (r : LineReading) → (line_pair (line_of r)).to_here ≡ [] → ⊥
+line_going both_untold e = cc
+line_going (both_agreed b) e = cc
+line_going one_untold e = cc
+line_going one_told e = cc
+line_going (one_agreed b) e = cc
 
 pub none_pending : (e : EnginePair) → IsWaiting e → e.to_here ≡ [] → is_pending e.here ≡ false
 none_pending e (inl o) none = absurd (some_going o.waits o.going o.lead (sym (ap (λ (x : EnginePair). x.to_here) o.is) ∙ none))
-none_pending e (inr s) none =
-    ap (λ (x : EnginePair). is_pending x.here) s.1 ∙ later_none s.0 (sym (ap (λ (x : EnginePair). x.to_here) s.1) ∙ none)
+none_pending e (inr (inl l)) none = absurd (line_going l.reading (sym (ap (λ (x : EnginePair). x.to_here) l.is) ∙ none))
+none_pending e (inr (inr s)) none =
+    ap (λ (x : EnginePair). is_pending x.here) s.is ∙ later_none s.suppressed s.waiting (sym (ap (λ (x : EnginePair). x.to_here) s.is) ∙ none)
 
 -- THE LAST ANSWERS: they are answered by nothing
 pub data Calm : Type 0 where
@@ -175,8 +245,10 @@ calm_stage c_off = both_off
 calm_stage c_granted_on = granted_on false
 calm_stage c_granted_off = granted_off false
 
-abbrev pub IsCalm : EnginePair → Type 0
-IsCalm e = (s : Calm) × (e ≡ pair_at (calm_stage s))
+pub record IsCalm (e : EnginePair) : Type 0 where
+  pub suppressed : Bool
+  pub calm : Calm
+  pub is : e ≡ pair_at suppressed (calm_stage calm)
 
 last_going : (going : List Question) → Lead (before echo) going done → going ≡ echo ∷ []
 last_going [] lead = absurd (not_done echo (sym lead))
@@ -191,26 +263,45 @@ reading_calms naws b going lead p = absurd (cc)
 reading_calms ours b going lead p = absurd (cc)
 reading_calms theirs b going lead p = absurd (cc)
 reading_calms echo true going lead p = absurd (cc)
-reading_calms echo false going lead p = (c_granted_on, ap (λ (qs : List Question). opening_at echo false qs done) (last_going going lead))
+reading_calms echo false going lead p =
+    record { suppressed = true; calm = c_granted_on; is = ap (λ (qs : List Question). opening_at echo false qs done) (last_going going lead) }
 
-later_calms : (s : Waiting) → is_pending (pair_at (stage_of s)).here ≡ false → (pair_at (stage_of s)).to_there ≡ [] → (c : Calm)
-    × (pair_at (stage_of s) ≡ pair_at (calm_stage c))
-later_calms w_on p e = (c_on, refl)
-later_calms w_off p e = (c_off, refl)
-later_calms w_asked_on p e = absurd (cc)
-later_calms w_asked_off p e = absurd (cc)
-later_calms (w_granted_on false) p e = (c_granted_on, refl)
-later_calms (w_granted_on true) p e = absurd (cc)
-later_calms (w_granted_off false) p e = (c_granted_off, refl)
-later_calms (w_granted_off true) p e = absurd (cc)
+later_calms : (g : Bool) (s : Waiting) → is_opposite (pair_at g (stage_of s)).here.us.echo.state ≡ false → (pair_at g (stage_of s)).to_there ≡ []
+    → IsCalm (pair_at g (stage_of s))
+later_calms g w_on p e = record { suppressed = g; calm = c_on; is = refl }
+later_calms g w_off p e = record { suppressed = g; calm = c_off; is = refl }
+later_calms g w_asked_on p e = absurd (cc)
+later_calms g w_asked_off p e = absurd (cc)
+later_calms g (w_granted_on false) p e = record { suppressed = g; calm = c_granted_on; is = refl }
+later_calms g (w_granted_on true) p e = absurd (cc)
+later_calms g (w_granted_off false) p e = record { suppressed = g; calm = c_granted_off; is = refl }
+later_calms g (w_granted_off true) p e = absurd (cc)
+
+later_echo : (g : Bool) (s : Waiting) → is_pending (pair_at g (stage_of s)).here ≡ is_opposite (pair_at g (stage_of s)).here.us.echo.state
+later_echo g w_on = by_echo g Yes
+later_echo g w_off = by_echo g No
+later_echo g w_asked_on = by_echo g WantYesEmpty
+later_echo g w_asked_off = by_echo g WantNoEmpty
+later_echo g (w_granted_on true) = by_echo g WantYesOpposite
+later_echo g (w_granted_on false) = by_echo g WantYesEmpty
+later_echo g (w_granted_off true) = by_echo g WantNoOpposite
+later_echo g (w_granted_off false) = by_echo g WantNoEmpty
+
+line_pends : (r : LineReading) → is_pending (line_pair (line_of r)).here ≡ false → ⊥
+line_pends both_untold p = cc
+line_pends (both_agreed b) p = cc
+line_pends one_untold p = cc
+line_pends one_told p = cc
+line_pends (one_agreed b) p = cc
 
 waiting_calms : (e : EnginePair) → IsWaiting e → is_pending e.here ≡ false → e.to_there ≡ [] → IsCalm e
 waiting_calms e (inl o) p none =
-    let c = reading_calms o.waits o.queued o.going o.lead (sym (ap (λ (x : EnginePair). is_pending x.here) o.is) ∙ p) in
-    (c.0, o.is ∙ c.1)
-waiting_calms e (inr s) p none =
-    let c = later_calms s.0 (sym (ap (λ (x : EnginePair). is_pending x.here) s.1) ∙ p) (sym (ap (λ (x : EnginePair). x.to_there) s.1) ∙ none) in
-    (c.0, s.1 ∙ c.1)
+    subst IsCalm (sym o.is) (reading_calms o.waits o.queued o.going o.lead (sym (ap (λ (x : EnginePair). is_pending x.here) o.is) ∙ p))
+waiting_calms e (inr (inl l)) p none = absurd (line_pends l.reading (sym (ap (λ (x : EnginePair). is_pending x.here) l.is) ∙ p))
+waiting_calms e (inr (inr s)) p none =
+    subst IsCalm (sym s.is)
+    (later_calms s.suppressed s.waiting (sym (later_echo s.suppressed s.waiting) ∙ sym (ap (λ (x : EnginePair). is_pending x.here) s.is) ∙ p)
+    (sym (ap (λ (x : EnginePair). x.to_there) s.is) ∙ none))
 
 pub calms_down : (e : EnginePair) → IsAtStage e → is_pending e.here ≡ false → e.to_there ≡ [] → IsCalm e
 calms_down e at p none = waiting_calms e (all_heard e at none) p none
@@ -221,16 +312,16 @@ IsUnanswered o [] = Unit {0}
 IsUnanswered o (w ∷ ws) =
     (reply_to o w.0 w.1 ≡ None) × (differ (terms.linemode o) (terms.linemode (options_after_word o w.0 w.1)) ≡ false)
 
-pub calm_answers : (s : Calm) → IsUnanswered (pair_at (calm_stage s)).here (pair_at (calm_stage s)).to_here
+pub calm_answers : (g : Bool) (s : Calm) → IsUnanswered (pair_at g (calm_stage s)).here (pair_at g (calm_stage s)).to_here
 unfolding options_after_word reply_to state_of cell
-calm_answers c_on = tt
-calm_answers c_off = tt
-calm_answers c_granted_on = (refl, refl)
-calm_answers c_granted_off = (refl, refl)
+calm_answers g c_on = tt
+calm_answers g c_off = tt
+calm_answers g c_granted_on = (refl, refl)
+calm_answers g c_granted_off = (refl, refl)
 
-pub calm_on : (s : Calm) → IsCalm (engine_step got_here (pair_at (calm_stage s)))
+pub calm_on : (g : Bool) (s : Calm) → IsCalm (engine_step got_here (pair_at g (calm_stage s)))
 unfolding options_after_word reply_to cell
-calm_on c_on = (c_on, refl)
-calm_on c_off = (c_off, refl)
-calm_on c_granted_on = (c_on, refl)
-calm_on c_granted_off = (c_off, refl)
+calm_on g c_on = record { suppressed = g; calm = c_on; is = refl }
+calm_on g c_off = record { suppressed = g; calm = c_off; is = refl }
+calm_on g c_granted_on = record { suppressed = g; calm = c_on; is = refl }
+calm_on g c_granted_off = record { suppressed = g; calm = c_off; is = refl }

@@ -11,11 +11,11 @@ use Rattle.tn_nvt.specs.declared.items.Item.{Item, TheVariants.{Byte, Newline, C
 use Rattle.tn_option.specs.{Options.{Options, reply_to, answer_to}, declared.q_method.{AskFault.AskFault, Side.TheVariants.Us}}
 use Rattle.tn_pty.specs.{Terminal.{queue_symbols, output_symbols, fitting_count}, Typing.command_shows}
 use Rattle.tn_server.specs.{Answering.{StopsWithin, first_said}, Calls.End, Events.{Event, got, took, wrote, pulled, wished, char_set, echo_set, mask_set}}
-use Rattle.tn_server.specs.{Replies.{asked_word_items, opening, table_items, echo_items, triple_items, forward_payload}, Screen.byte_shows}
-use Rattle.tn_server.specs.Steps.{masks_by, told_now, is_due, negotiation_items, negotiation_heard, negotiation_wishing, end_after_wish, says_wished}
-use Rattle.tn_server.specs.Steps.{mask_wished, end_after_mode_by, says_mode_by, end_after_payload, says_sub, says_item, end_after_item, owes_ga}
-use Rattle.tn_server.specs.{Steps.{flags_with_echo, end_after, says, end_after_items, says_items}, declared.faults.ServerFault.ServerFault}
-use Rattle.tn_server.specs.{Terms.{linemode, echoes, payload_at, mask_for, chars_after, wants_echo}, declared.terms.Negotiation.Negotiation}
+use Rattle.tn_server.specs.{Replies.{asked_word_items, opening, table_items, echo_items, triple_items, forward_payload}, Screen.byte_shows, Steps.masks_by}
+use Rattle.tn_server.specs.Steps.{told_now, is_due, negotiation_items, negotiation_heard, negotiation_wishing, end_after_wish, says_wished, mask_wished}
+use Rattle.tn_server.specs.Steps.{end_after_mode_by, says_mode_by, end_after_payload, says_sub, says_item, end_after_item, owes_ga, flags_with_echo, end_after}
+use Rattle.tn_server.specs.{Steps.{says, end_after_items, says_items}, declared.faults.ServerFault.ServerFault, Terms.{linemode, echoes, payload_at, mask_for}}
+use Rattle.tn_server.specs.{Terms.{chars_after, wants_echo}, declared.{terms.Negotiation.Negotiation, openings.Opening.{Opening, TheVariants.{Keys, Lines}}}}
 use Rattle.tn_client.specs.Screen.{item_shown}
 use Rattle.tn_world.specs.Output.{text_of}
 
@@ -53,9 +53,9 @@ echo_none false wanted o = refl
 
 negotiated_none : (was set : Bool) (f : Flags) (c : Characters) (n : Negotiation) → text_of (negotiation_items was set f c n) ≡ []
 negotiated_none was set f c n =
-    let echo = echo_items (is_due was set n) (wants_echo (masks_by was n).asked f) n.options in
+    let echo = echo_items (is_due was set n) (wants_echo n.opening n.options (masks_by was n).asked f) n.options in
     both_none (table_items (linemode n.options && not was) c) (mode_items (told_now was n) ++ echo) (table_none (linemode n.options && not was) c)
-    (both_none (mode_items (told_now was n)) echo (mode_none (told_now was n)) (echo_none (is_due was set n) (wants_echo (masks_by was n).asked f) n.options))
+    (both_none (mode_items (told_now was n)) echo (mode_none (told_now was n)) (echo_none (is_due was set n) (wants_echo n.opening n.options (masks_by was n).asked f) n.options))
 
 wished_none : (old : End) (mask : Option ℕ) → text_of (says_wished old mask) ≡ []
 wished_none old None = refl
@@ -98,11 +98,12 @@ says_none old (wrote bytes) is = refl
 says_none old (pulled n) is = absurd is
 says_none old (wished editing) is = wished_none old (mask_for old.terminal.settings.flags editing)
 says_none old (char_set func value) is = triple_none (linemode old.terms.options && not (is_same_value (slot old.table func) value)) func value
-says_none old (echo_set on) is = echo_none true (wants_echo old.modes.asked (flags_with_echo old on)) old.terms.options
+says_none old (echo_set on) is = echo_none true (wants_echo old.terms.opening old.terms.options old.modes.asked (flags_with_echo old on)) old.terms.options
 says_none old (mask_set mask) is = mask_none mask
 
-pub opening_none : text_of opening ≡ []
-opening_none = refl
+pub opening_none : (o : Opening) → text_of (opening o) ≡ []
+opening_none Keys = refl
+opening_none Lines = refl
 
 -- items that came, one after another
 pub items_none : (old : End) (items : List Item) → text_of (says_items old items) ≡ []

@@ -59,7 +59,7 @@ stays_negotiated : (canon : Canon) (old : End) (was set : Bool) (f : Flags) (n :
     → NeverEnds (state_of n.options Them 34) → IsAllowed old.terminal.settings.flags n.wish → ServerStays canon old
     → ServerStays canon (with_negotiated old (negotiation_after was set f n))
 stays_negotiated canon old was set f n agrees never allowed k =
-    let wanted = wants_echo (masks_by was n).asked f in
+    let wanted = wants_echo n.opening n.options (masks_by was n).asked f in
     record {
       agreed = echo_agrees (is_due was set n) wanted n.options ∙ agrees;
       linemode = subst NeverEnds (sym (echo_keeps_state (is_due was set n) wanted n.options)) never;
@@ -83,7 +83,7 @@ core_negotiated : (old : End) (was set : Bool) (f : Flags) (n : Negotiation)
     → server_core (with_negotiated old (negotiation_after was set f n)) ≡ turned old was n.modes (linemode n.options)
 core_negotiated old was set f n =
     ap (λ (b : Bool). record (server_core old) { linemode = b; edit = edits (masks_by was n).current })
-    (echo_keeps_linemode (is_due was set n) (wants_echo (masks_by was n).asked f) n.options)
+    (echo_keeps_linemode (is_due was set n) (wants_echo n.opening n.options (masks_by was n).asked f) n.options)
     ∙ ap (λ (m : ℕ). record (server_core old) { linemode = linemode n.options; edit = edits m })
     (asked_current (linemode n.options) (modes_before (differ was (linemode n.options)) n.modes) n.wish)
 
@@ -274,7 +274,7 @@ negotiated_made : (P : Item → Type 0) (was set : Bool) (f : Flags) (c : Charac
     → P (Sub 34 (1 ∷ mode_of n.wish ∷ [])) → ((verb : Verb) → P (Neg verb 1)) → All P (negotiation_items was set f c n)
 negotiated_made P was set f c n table p echo =
     let m = modes_before (differ was (linemode n.options)) n.modes in
-    All-append P _ _ table (All-append P _ _ (told_made P (linemode n.options) m n.wish p) (echo_made P (is_due was set n) (wants_echo (masks_by was n).asked f) n.options echo))
+    All-append P _ _ table (All-append P _ _ (told_made P (linemode n.options) m n.wish p) (echo_made P (is_due was set n) (wants_echo n.opening n.options (masks_by was n).asked f) n.options echo))
 
 -- no table is new if LINEMODE stays
 untold_made : (P : Item → Type 0) (was on : Bool) (c : Characters) → on ≡ was → All P (new_table_items was on c)
@@ -382,7 +382,7 @@ calm_call canon old (wrote bytes) is k = All-nil (IsCalmToClient canon.settings)
 calm_call canon old (pulled n) is k = pulled_made (IsCalmToClient canon.settings) (λ b. tt) tt (take n old.terminal.queue)
 calm_call canon old (wished ed) is k = wished_calm canon old ed (mask_for old.terminal.settings.flags ed) refl k
 calm_call canon old (echo_set on) is k =
-    echo_made (IsCalmToClient canon.settings) true (wants_echo old.modes.asked (flags_with_echo old on)) old.terms.options (λ v. inl refl)
+    echo_made (IsCalmToClient canon.settings) true (wants_echo old.terms.opening old.terms.options old.modes.asked (flags_with_echo old on)) old.terms.options (λ v. inl refl)
 calm_call canon old (mask_set (Some mask)) is k =
     let octets = trimmed_octets (take 32 mask.0) in
     one (IsCalmToClient canon.settings) (Sub 34 (253 ∷ 2 ∷ octets)) (mask_calm canon.settings octets (nat_le (length octets) 32))
@@ -402,7 +402,7 @@ stays_call canon old (wrote bytes) is k = stays_aside canon old (end_after old (
 stays_call canon old (pulled n) is k = stays_aside canon old (end_after old (pulled n)) refl refl refl refl refl k
 stays_call canon old (wished ed) is k = stays_wished canon old ed (mask_for old.terminal.settings.flags ed) refl k
 stays_call canon old (echo_set on) is k =
-    let wanted = wants_echo old.modes.asked (flags_with_echo old on) in
+    let wanted = wants_echo old.terms.opening old.terms.options old.modes.asked (flags_with_echo old on) in
     record {
       agreed = echo_agrees true wanted old.terms.options ∙ k.agreed;
       linemode = subst NeverEnds (sym (echo_keeps_state true wanted old.terms.options)) k.linemode;
@@ -429,6 +429,6 @@ core_call old (pulled n) is = refl
 core_call old (wished ed) is = core_wished old (mask_for old.terminal.settings.flags ed)
 core_call old (echo_set on) is =
     ap (λ (b : Bool). record (server_core old) { linemode = b })
-    (echo_keeps_linemode true (wants_echo old.modes.asked (flags_with_echo old on)) old.terms.options)
+    (echo_keeps_linemode true (wants_echo old.terms.opening old.terms.options old.modes.asked (flags_with_echo old on)) old.terms.options)
 core_call old (mask_set mask) is = refl
 core_call old _ is = absurd is

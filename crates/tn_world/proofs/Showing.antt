@@ -6,7 +6,7 @@ use Rattle.tn_discipline.specs.declared.echo.Symbol.{Symbol}
 use Rattle.tn_discipline.specs.declared.echo.Symbol.TheVariants as symbol
 use Rattle.tn_nvt.specs.{Spelling.{spells, Fits}, Feeding.{DecoderState, LeadsTo}, declared.items.Item.Item, Prefixes.IsPrefixOf}
 use Rattle.tn_server.specs.Events as server_calls
-use Rattle.tn_server.specs.{Faults.{IsOfItem, IsOfPiece}, Replies.{opening, data_of}, declared.faults.ServerFault.ServerFault}
+use Rattle.tn_server.specs.{Faults.{IsOfItem, IsOfPiece}, Replies.{opening, data_of}, declared.{faults.ServerFault.ServerFault, openings.Opening.Opening}}
 use Rattle.tn_server.specs.Answering as server_answers
 use Rattle.tn_server.specs.Calls as server
 use Rattle.tn_server.specs.Steps as server_steps
@@ -291,10 +291,10 @@ pub shown_begins : (w : World) (text : List ℕ) → IsOutput w text → IsPrefi
 shown_begins w text o = (text_of o.items ++ screen w.server.terminal.queue, sym o.is)
 
 -- a new world shows nothing, and its opening messages are silent
-pub opened_output : (w : World) → LeadsTo [] [] w.client.decoder → w.to_client ≡ spells opening → w.shown ≡ [] → w.server.terminal.queue ≡ [] → IsOutput w []
-opened_output w began said shown none =
+pub opened_output : (o : Opening) (w : World) → LeadsTo [] [] w.client.decoder → w.to_client ≡ spells (opening o) → w.shown ≡ [] → w.server.terminal.queue ≡ [] → IsOutput w []
+opened_output o w began said shown none =
     record {
-      items = opening;
-      flight = said_behind w.client.decoder [] w.to_client [] opening said opening-fits (start w.client.decoder began);
-      is = parts [] [] [] w.shown (text_of opening) (screen w.server.terminal.queue) (sym shown) (sym opening_none) (ap screen (sym none));
+      items = opening o;
+      flight = said_behind w.client.decoder [] w.to_client [] (opening o) said (opening-fits o) (start w.client.decoder began);
+      is = parts [] [] [] w.shown (text_of (opening o)) (screen w.server.terminal.queue) (sym shown) (sym (opening_none o)) (ap screen (sym none));
     }

@@ -35,7 +35,7 @@ use Rattle.tn_client.specs.declared.faults.ClientFault.TheVariants as client_fau
 use Rattle.tn_client.proofs.lemmas.Courses as client_on
 use Rattle.tn_client.proofs.lemmas.Fitting as client_fits
 use Rattle.tn_client.proofs.lemmas.Words as client_words
-use Rattle.tn_world.specs.{Past.{HasPast, engines, opening_pair, WishesNothing}, Flight.InFlight, declared.{events.Event.Event, faults.Cause.Cause}}
+use Rattle.tn_world.specs.{Past.{HasPast, HasTalked, engines, opening_pair, WishesNothing}, Flight.InFlight, declared.{events.Event.Event, faults.Cause.Cause}}
 use Rattle.tn_world.specs.Worlds.{World, Types, SendsCommand, CallsClient, DeliversToServer, DeliversToClient, CallsServer, TakesEntry, RunsEvent}
 use Rattle.tn_world.specs.{Worlds.{ServerRefusesDelivery, ClientRefusesDelivery, Refuses, client_fault}, declared.events.Event.TheVariants.{ToServer, ToClient}}
 use Rattle.tn_world.specs.declared.faults.Cause.TheVariants as cause
@@ -109,12 +109,12 @@ propose_goes_on end _ e = call_goes_on end e
 -- THE OPTION MESSAGES in flight
 -- two engines of a server and a client, from their beginning
 abbrev pub Lead : Options → Options → List (Verb × ℕ) → List (Verb × ℕ) → Type 0
-Lead here there ws vs = TalkTo opening_pair (record { here = here; there = there; to_here = ws; to_there = vs })
+Lead here there ws vs = HasTalked (record { here = here; there = there; to_here = ws; to_there = vs })
 
 leads_on : (here there here2 there2 : Options) (ws vs ws2 vs2 : List (Verb × ℕ))
     → Moves (record { here = here; there = there; to_here = ws; to_there = vs }) (record { here = here2; there = there2; to_here = ws2; to_there = vs2 })
     → Lead here there ws vs → Lead here2 there2 ws2 vs2
-leads_on here there here2 there2 ws vs ws2 vs2 m l = then-Moves opening_pair _ _ l m
+leads_on here there here2 there2 ws vs ws2 vs2 m l = record { opening = l.opening; talk = then-Moves (opening_pair l.opening) _ _ l.talk m }
 
 -- more is sent to the server, and to the client
 said_there : (here there : Options) (xs said : List Item) (vs : List (Verb × ℕ)) → Lead here there (words_in xs ++ words_in said) vs
@@ -151,7 +151,7 @@ pub made : (w : World) (h : server_calls.History) → server.LeadsTo h w.server
     → (w.server.failed ≡ false → w.server.terminal.closed ≡ false)
     → (there : w.server.failed ≡ false → (items : List Item) × InFlight w.server.decoder w.to_server items)
     → (here : w.client.failed ≡ false → (items : List Item) × InFlight w.client.decoder w.to_client items)
-    → ((a : w.server.failed ≡ false) (b : w.client.failed ≡ false) → TalkTo opening_pair (engines w (there a).0 (here b).0))
+    → ((a : w.server.failed ≡ false) (b : w.client.failed ≡ false) → HasTalked (engines w (there a).0 (here b).0))
     → ((a : w.server.failed ≡ false) → w.client.failed ≡ false → All WishesNothing (there a).0) → HasPast w
 made w h stands of_server of_client limit opened there here words unwished =
     record {

@@ -1,6 +1,6 @@
 -- A talk that began with the opening messages is at one of these stages: the client has received the first of
--- the five questions, and the server the first of its answers; or all are answered, and only the server's
--- requests for ECHO are negotiated. The Bool: a contrary request is queued after the question (RFC 1143).
+-- the five questions, or two, and the server the first of its answers; or all are answered, and only the
+-- server's requests for ECHO are negotiated. The Bool: a contrary request is queued after the question (RFC 1143).
 use Rattle.std.proofs.Common.{◌≡◌, ◌⊎◌, inl, inr, ℕ, Bool, true, false, not, Option, None, List, [], ◌∷◌, ◌++◌, map, refl, sym, ap, ◌∙◌, subst, append-nil}
 use Rattle.std.proofs.lemmas.List.{map-append}
 use Rattle.std.specs.Prelude.{option_to_list}
@@ -9,7 +9,8 @@ use Rattle.tn_option.specs.EnginePair.{EnginePair, engine_step, asked_word, ask_
 use Rattle.tn_option.specs.{EnginePair.{step_of, talk_steps, TalkTo}, QMethod.cell, declared.{negotiation.OptionSide.OptionSide, q_method.QState.QState}}
 use Rattle.tn_option.specs.{Options.{Options, options_after_word, reply_to, options_after_wish, answer_to, new_options}, declared.q_method.Side.TheVariants.Us}
 use Rattle.tn_option.specs.declared.q_method.QState.TheVariants.{No, Yes, WantNoEmpty, WantNoOpposite, WantYesEmpty, WantYesOpposite}
-use Rattle.tn_world.specs.Past.{opening_pair}
+use Rattle.tn_server.specs.declared.openings.Opening.{Opening, TheVariants.{Keys, Lines}}
+use Rattle.tn_world.specs.Past.{HasTalked, opening_pair}
 
 -- THE FIVE QUESTIONS, in the order in which they are asked: LINEMODE, NAWS, both directions of SUPPRESS-GO-AHEAD, and
 -- the server's ECHO
@@ -121,23 +122,132 @@ pub data Stage : Type 0 where
   granted_on : Bool → Stage
   granted_off : Bool → Stage
 
-abbrev pub pair_of_echo : QState → QState → List (Verb × ℕ) → List (Verb × ℕ) → EnginePair
-pair_of_echo here there to_here to_there =
-    record { here = server_options Yes Yes Yes Yes here; there = client_options Yes Yes Yes Yes there; to_here = to_here; to_there = to_there }
+-- SUPPRESS-GO-AHEAD, in both directions: on after an opening for keys, and off after one for lines
+abbrev pub go_ahead : Bool → QState
+go_ahead true = Yes
+go_ahead false = No
 
-abbrev pub pair_at : Stage → EnginePair
-pair_at both_on = pair_of_echo Yes Yes [] []
-pair_at both_off = pair_of_echo No No [] []
-pair_at (asked_on b) = pair_of_echo (want_yes b) No [] ((Will, 1) ∷ [])
-pair_at (asked_off b) = pair_of_echo (want_no b) Yes [] ((Wont, 1) ∷ [])
-pair_at (granted_on b) = pair_of_echo (want_yes b) Yes ((DoIt, 1) ∷ []) []
-pair_at (granted_off b) = pair_of_echo (want_no b) No ((DontIt, 1) ∷ []) []
+abbrev pub pair_of_echo : Bool → QState → QState → List (Verb × ℕ) → List (Verb × ℕ) → EnginePair
+pair_of_echo g here there to_here to_there =
+    record {
+      here = server_options Yes Yes (go_ahead g) (go_ahead g) here;
+      there = client_options Yes Yes (go_ahead g) (go_ahead g) there;
+      to_here = to_here;
+      to_there = to_there;
+    }
 
-abbrev pub IsLater : EnginePair → Type 0
-IsLater e = (s : Stage) × (e ≡ pair_at s)
+abbrev pub pair_at : Bool → Stage → EnginePair
+pair_at g both_on = pair_of_echo g Yes Yes [] []
+pair_at g both_off = pair_of_echo g No No [] []
+pair_at g (asked_on b) = pair_of_echo g (want_yes b) No [] ((Will, 1) ∷ [])
+pair_at g (asked_off b) = pair_of_echo g (want_no b) Yes [] ((Wont, 1) ∷ [])
+pair_at g (granted_on b) = pair_of_echo g (want_yes b) Yes ((DoIt, 1) ∷ []) []
+pair_at g (granted_off b) = pair_of_echo g (want_no b) No ((DontIt, 1) ∷ []) []
+
+pub record IsLater (e : EnginePair) : Type 0 where
+  pub suppressed : Bool
+  pub stage : Stage
+  pub is : e ≡ pair_at suppressed stage
+
+-- AN OPENING FOR LINES: LINEMODE and NAWS are asked for, and the server may request its ECHO meanwhile. ECHO is
+-- not asked for; or it is; or the client has granted it.
+pub data Echo : Type 0 where
+  unasked : Echo
+  asked : Bool → Echo
+
+pub data Told : Type 0 where
+  untold : Told
+  told : Bool → Told
+  consented : Bool → Told
+
+-- the client has received both questions
+abbrev told_of : Echo → Told
+told_of unasked = untold
+told_of (asked b) = told b
+
+-- before either question, after the first, and after both, while the server waits for LINEMODE; and after the
+-- first and both, while it waits for NAWS
+pub data LineStage : Type 0 where
+  asks_both : Echo → LineStage
+  asks_size : Echo → LineStage
+  asks_none : Told → LineStage
+  waits_asks : Echo → LineStage
+  waits_none : Told → LineStage
+
+abbrev pub echo_there : Echo → QState
+echo_there unasked = No
+echo_there (asked b) = want_yes b
+
+abbrev pub echo_words : Echo → List (Verb × ℕ)
+echo_words unasked = []
+echo_words (asked b) = (Will, 1) ∷ []
+
+abbrev pub told_there : Told → QState
+told_there untold = No
+told_there (told b) = want_yes b
+told_there (consented b) = want_yes b
+
+abbrev pub told_here : Told → QState
+told_here (consented b) = Yes
+told_here _ = No
+
+abbrev pub told_words : Told → List (Verb × ℕ)
+told_words (told b) = (Will, 1) ∷ []
+told_words _ = []
+
+abbrev pub agreed_words : Told → List (Verb × ℕ)
+agreed_words (consented b) = (DoIt, 1) ∷ []
+agreed_words _ = []
+
+abbrev pub line_pair : LineStage → EnginePair
+line_pair (asks_both e) =
+    record {
+      here = server_options WantYesEmpty WantYesEmpty No No (echo_there e);
+      there = client_options No No No No No;
+      to_here = [];
+      to_there = (DoIt, 34) ∷ (DoIt, 31) ∷ echo_words e;
+    }
+line_pair (asks_size e) =
+    record {
+      here = server_options WantYesEmpty WantYesEmpty No No (echo_there e);
+      there = client_options Yes No No No No;
+      to_here = (Will, 34) ∷ [];
+      to_there = (DoIt, 31) ∷ echo_words e;
+    }
+line_pair (asks_none e) =
+    record {
+      here = server_options WantYesEmpty WantYesEmpty No No (told_there e);
+      there = client_options Yes Yes No No (told_here e);
+      to_here = (Will, 34) ∷ (Will, 31) ∷ agreed_words e;
+      to_there = told_words e;
+    }
+line_pair (waits_asks e) =
+    record {
+      here = server_options Yes WantYesEmpty No No (echo_there e);
+      there = client_options Yes No No No No;
+      to_here = [];
+      to_there = (DoIt, 31) ∷ echo_words e;
+    }
+line_pair (waits_none e) =
+    record {
+      here = server_options Yes WantYesEmpty No No (told_there e);
+      there = client_options Yes Yes No No (told_here e);
+      to_here = (Will, 31) ∷ agreed_words e;
+      to_there = told_words e;
+    }
+
+pub record IsLineOpening (e : EnginePair) : Type 0 where
+  pub stage : LineStage
+  pub is : e ≡ line_pair stage
 
 abbrev pub IsAtStage : EnginePair → Type 0
-IsAtStage e = IsOpening e ⊎ IsLater e
+IsAtStage e = IsOpening e ⊎ (IsLineOpening e ⊎ IsLater e)
+
+later : (g : Bool) (s : Stage) (e : EnginePair) → e ≡ pair_at g s → IsAtStage e
+later g s e is = inr (inr (record { suppressed = g; stage = s; is = is }))
+
+lines : (s : LineStage) (e : EnginePair) → e ≡ line_pair s → IsAtStage e
+lines s e is = inr (inl (record { stage = s; is = is }))
 
 -- EACH STEP of a talk leads from a stage to a stage: the server reads an answer
 pub same_question : (p q : Question) → before p ≡ before q → p ≡ q
@@ -160,8 +270,8 @@ opens q b going heard said lead is =
 
 last_by_queue : (b : Bool) → IsAtStage (engine_step got_here (opening_at echo b (echo ∷ []) done))
 unfolding options_after_word reply_to cell
-last_by_queue false = inr (both_on, refl)
-last_by_queue true = inr (asked_off false, refl)
+last_by_queue false = later true both_on _ refl
+last_by_queue true = later true (asked_off false) _ refl
 
 last_read : (b : Bool) (heard : Progress) → done ≡ heard → IsAtStage (engine_step got_here (opening_at echo b (echo ∷ []) heard))
 last_read b heard is = subst (λ (p : Progress). IsAtStage (engine_step got_here (opening_at echo b (echo ∷ []) p))) is (last_by_queue b)
@@ -256,57 +366,152 @@ opening_steps (wishes_echo on) q b going heard lead =
     inl (record { waits = q; queued = not on; going = going; heard = heard; lead = lead; is = wish_step q b on (opening_at q b going heard) refl })
 
 -- each step after the opening leads to one of the later states
-later_steps : (t : Talk) (s : Stage) → IsLater (engine_step (step_of t) (pair_at s))
+later_steps : (t : Talk) (g : Bool) (s : Stage) → (r : Stage) × (engine_step (step_of t) (pair_at g s) ≡ pair_at g r)
 unfolding options_after_word reply_to options_after_wish answer_to cell
-later_steps server_hears both_on = (both_on, refl)
-later_steps server_hears both_off = (both_off, refl)
-later_steps server_hears (asked_on b) = (asked_on b, refl)
-later_steps server_hears (asked_off b) = (asked_off b, refl)
-later_steps server_hears (granted_on false) = (both_on, refl)
-later_steps server_hears (granted_on true) = (asked_off false, refl)
-later_steps server_hears (granted_off false) = (both_off, refl)
-later_steps server_hears (granted_off true) = (asked_on false, refl)
-later_steps client_hears both_on = (both_on, refl)
-later_steps client_hears both_off = (both_off, refl)
-later_steps client_hears (asked_on b) = (granted_on b, refl)
-later_steps client_hears (asked_off b) = (granted_off b, refl)
-later_steps client_hears (granted_on b) = (granted_on b, refl)
-later_steps client_hears (granted_off b) = (granted_off b, refl)
-later_steps (wishes_echo true) both_on = (both_on, refl)
-later_steps (wishes_echo true) both_off = (asked_on false, refl)
-later_steps (wishes_echo true) (asked_on false) = (asked_on false, refl)
-later_steps (wishes_echo true) (asked_on true) = (asked_on false, refl)
-later_steps (wishes_echo true) (asked_off false) = (asked_off true, refl)
-later_steps (wishes_echo true) (asked_off true) = (asked_off true, refl)
-later_steps (wishes_echo true) (granted_on false) = (granted_on false, refl)
-later_steps (wishes_echo true) (granted_on true) = (granted_on false, refl)
-later_steps (wishes_echo true) (granted_off false) = (granted_off true, refl)
-later_steps (wishes_echo true) (granted_off true) = (granted_off true, refl)
-later_steps (wishes_echo false) both_on = (asked_off false, refl)
-later_steps (wishes_echo false) both_off = (both_off, refl)
-later_steps (wishes_echo false) (asked_on false) = (asked_on true, refl)
-later_steps (wishes_echo false) (asked_on true) = (asked_on true, refl)
-later_steps (wishes_echo false) (asked_off false) = (asked_off false, refl)
-later_steps (wishes_echo false) (asked_off true) = (asked_off false, refl)
-later_steps (wishes_echo false) (granted_on false) = (granted_on true, refl)
-later_steps (wishes_echo false) (granted_on true) = (granted_on true, refl)
-later_steps (wishes_echo false) (granted_off false) = (granted_off false, refl)
-later_steps (wishes_echo false) (granted_off true) = (granted_off false, refl)
+later_steps server_hears g both_on = (both_on, refl)
+later_steps server_hears g both_off = (both_off, refl)
+later_steps server_hears g (asked_on b) = (asked_on b, refl)
+later_steps server_hears g (asked_off b) = (asked_off b, refl)
+later_steps server_hears g (granted_on false) = (both_on, refl)
+later_steps server_hears g (granted_on true) = (asked_off false, refl)
+later_steps server_hears g (granted_off false) = (both_off, refl)
+later_steps server_hears g (granted_off true) = (asked_on false, refl)
+later_steps client_hears g both_on = (both_on, refl)
+later_steps client_hears g both_off = (both_off, refl)
+later_steps client_hears g (asked_on b) = (granted_on b, refl)
+later_steps client_hears g (asked_off b) = (granted_off b, refl)
+later_steps client_hears g (granted_on b) = (granted_on b, refl)
+later_steps client_hears g (granted_off b) = (granted_off b, refl)
+later_steps (wishes_echo true) g both_on = (both_on, refl)
+later_steps (wishes_echo true) g both_off = (asked_on false, refl)
+later_steps (wishes_echo true) g (asked_on false) = (asked_on false, refl)
+later_steps (wishes_echo true) g (asked_on true) = (asked_on false, refl)
+later_steps (wishes_echo true) g (asked_off false) = (asked_off true, refl)
+later_steps (wishes_echo true) g (asked_off true) = (asked_off true, refl)
+later_steps (wishes_echo true) g (granted_on false) = (granted_on false, refl)
+later_steps (wishes_echo true) g (granted_on true) = (granted_on false, refl)
+later_steps (wishes_echo true) g (granted_off false) = (granted_off true, refl)
+later_steps (wishes_echo true) g (granted_off true) = (granted_off true, refl)
+later_steps (wishes_echo false) g both_on = (asked_off false, refl)
+later_steps (wishes_echo false) g both_off = (both_off, refl)
+later_steps (wishes_echo false) g (asked_on false) = (asked_on true, refl)
+later_steps (wishes_echo false) g (asked_on true) = (asked_on true, refl)
+later_steps (wishes_echo false) g (asked_off false) = (asked_off false, refl)
+later_steps (wishes_echo false) g (asked_off true) = (asked_off false, refl)
+later_steps (wishes_echo false) g (granted_on false) = (granted_on true, refl)
+later_steps (wishes_echo false) g (granted_on true) = (granted_on true, refl)
+later_steps (wishes_echo false) g (granted_off false) = (granted_off false, refl)
+later_steps (wishes_echo false) g (granted_off true) = (granted_off false, refl)
+
+-- each step after an opening for lines
+line_hears : (s : LineStage) → IsAtStage (engine_step got_here (line_pair s))
+unfolding options_after_word reply_to cell
+line_hears (asks_both e) = lines (asks_both e) _ refl
+line_hears (asks_size unasked) = lines (waits_asks unasked) _ refl
+line_hears (asks_size (asked b)) = lines (waits_asks (asked b)) _ refl
+line_hears (asks_none untold) = lines (waits_none untold) _ refl
+line_hears (asks_none (told b)) = lines (waits_none (told b)) _ refl
+line_hears (asks_none (consented b)) = lines (waits_none (consented b)) _ refl
+line_hears (waits_asks e) = lines (waits_asks e) _ refl
+line_hears (waits_none untold) = later false both_off _ refl
+line_hears (waits_none (told b)) = later false (asked_on b) _ refl
+line_hears (waits_none (consented b)) = later false (granted_on b) _ refl
+
+line_tells : (s : LineStage) → IsAtStage (engine_step got_there (line_pair s))
+unfolding options_after_word reply_to cell
+line_tells (asks_both e) = lines (asks_size e) _ refl
+line_tells (asks_size unasked) = lines (asks_none untold) _ refl
+line_tells (asks_size (asked b)) = lines (asks_none (told b)) _ refl
+line_tells (asks_none untold) = lines (asks_none untold) _ refl
+line_tells (asks_none (told b)) = lines (asks_none (consented b)) _ refl
+line_tells (asks_none (consented b)) = lines (asks_none (consented b)) _ refl
+line_tells (waits_asks unasked) = lines (waits_none untold) _ refl
+line_tells (waits_asks (asked b)) = lines (waits_none (told b)) _ refl
+line_tells (waits_none untold) = lines (waits_none untold) _ refl
+line_tells (waits_none (told b)) = lines (waits_none (consented b)) _ refl
+line_tells (waits_none (consented b)) = lines (waits_none (consented b)) _ refl
+
+abbrev echo_asked : Bool → Echo → Echo
+echo_asked true unasked = asked false
+echo_asked false unasked = unasked
+echo_asked on (asked b) = asked (not on)
+
+abbrev pub told_asked : Bool → Told → Told
+told_asked true untold = told false
+told_asked false untold = untold
+told_asked on (told b) = told (not on)
+told_asked on (consented b) = consented (not on)
+
+abbrev line_asked : Bool → LineStage → LineStage
+line_asked on (asks_both e) = asks_both (echo_asked on e)
+line_asked on (asks_size e) = asks_size (echo_asked on e)
+line_asked on (asks_none e) = asks_none (told_asked on e)
+line_asked on (waits_asks e) = waits_asks (echo_asked on e)
+line_asked on (waits_none e) = waits_none (told_asked on e)
+
+line_wishes : (on : Bool) (s : LineStage) → engine_step (ask_here Us 1 on) (line_pair s) ≡ line_pair (line_asked on s)
+unfolding options_after_wish answer_to cell
+line_wishes true (asks_both unasked) = refl
+line_wishes false (asks_both unasked) = refl
+line_wishes true (asks_both (asked true)) = refl
+line_wishes false (asks_both (asked true)) = refl
+line_wishes true (asks_both (asked false)) = refl
+line_wishes false (asks_both (asked false)) = refl
+line_wishes true (asks_size unasked) = refl
+line_wishes false (asks_size unasked) = refl
+line_wishes true (asks_size (asked true)) = refl
+line_wishes false (asks_size (asked true)) = refl
+line_wishes true (asks_size (asked false)) = refl
+line_wishes false (asks_size (asked false)) = refl
+line_wishes true (asks_none untold) = refl
+line_wishes false (asks_none untold) = refl
+line_wishes true (asks_none (told true)) = refl
+line_wishes false (asks_none (told true)) = refl
+line_wishes true (asks_none (told false)) = refl
+line_wishes false (asks_none (told false)) = refl
+line_wishes true (asks_none (consented true)) = refl
+line_wishes false (asks_none (consented true)) = refl
+line_wishes true (asks_none (consented false)) = refl
+line_wishes false (asks_none (consented false)) = refl
+line_wishes true (waits_asks unasked) = refl
+line_wishes false (waits_asks unasked) = refl
+line_wishes true (waits_asks (asked true)) = refl
+line_wishes false (waits_asks (asked true)) = refl
+line_wishes true (waits_asks (asked false)) = refl
+line_wishes false (waits_asks (asked false)) = refl
+line_wishes true (waits_none untold) = refl
+line_wishes false (waits_none untold) = refl
+line_wishes true (waits_none (told true)) = refl
+line_wishes false (waits_none (told true)) = refl
+line_wishes true (waits_none (told false)) = refl
+line_wishes false (waits_none (told false)) = refl
+line_wishes true (waits_none (consented true)) = refl
+line_wishes false (waits_none (consented true)) = refl
+line_wishes true (waits_none (consented false)) = refl
+line_wishes false (waits_none (consented false)) = refl
+
+line_steps : (t : Talk) (s : LineStage) → IsAtStage (engine_step (step_of t) (line_pair s))
+line_steps server_hears s = line_hears s
+line_steps client_hears s = line_tells s
+line_steps (wishes_echo on) s = lines (line_asked on s) _ (line_wishes on s)
 
 steps_on : (t : Talk) (e : EnginePair) → IsAtStage e → IsAtStage (engine_step (step_of t) e)
 steps_on t e (inl o) =
     subst (λ (x : EnginePair). IsAtStage (engine_step (step_of t) x)) (sym o.is) (opening_steps t o.waits o.queued o.going o.heard o.lead)
-steps_on t e (inr s) =
-    inr (subst (λ (x : EnginePair). IsLater (engine_step (step_of t) x)) (sym s.1) (later_steps t s.0))
+steps_on t e (inr (inl l)) = subst (λ (x : EnginePair). IsAtStage (engine_step (step_of t) x)) (sym l.is) (line_steps t l.stage)
+steps_on t e (inr (inr s)) =
+    let on = later_steps t s.suppressed s.stage in
+    later s.suppressed on.0 _ (ap (engine_step (step_of t)) s.is ∙ on.1)
 
 goes_on : (list : List Talk) (e : EnginePair) → IsAtStage e → IsAtStage (talk_steps list e)
 goes_on [] e at = at
 goes_on (t ∷ list) e at = goes_on list (engine_step (step_of t) e) (steps_on t e at)
 
-begins : IsOpening opening_pair
+begins : (o : Opening) → IsAtStage (opening_pair o)
 unfolding new_options options_after_wish cell
-begins = record { waits = linemode; queued = false; going = []; heard = before linemode; lead = refl; is = refl }
+begins Keys = inl (record { waits = linemode; queued = false; going = []; heard = before linemode; lead = refl; is = refl })
+begins Lines = lines (asks_both unasked) _ refl
 
 -- wherever a talk leads
-pub at_stage : (e : EnginePair) → TalkTo opening_pair e → IsAtStage e
-at_stage e m = subst IsAtStage m.1 (goes_on m.0 opening_pair (inl begins))
+pub at_stage : (e : EnginePair) → HasTalked e → IsAtStage e
+at_stage e m = subst IsAtStage m.talk.1 (goes_on m.talk.0 (opening_pair m.opening) (begins m.opening))

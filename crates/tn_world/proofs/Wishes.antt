@@ -48,7 +48,7 @@ allowed_after f before (Some Remote) h = inl refl
 allowed_after f before (Some Local) h = allowed_or f before (mask_for f Local) refl h
 
 pub wish_allowed : (h : History) → IsAllowed (terms.flags h) (terms.terms h).wish
-wish_allowed (begun s) = inl refl
+wish_allowed (begun o s) = inl refl
 wish_allowed (next h (got item)) = allowed_after (terms.flags h) (terms.terms h).wish (terms.wish_at (terms.options h) (got item)) (wish_allowed h)
 wish_allowed (next h (wished editing)) = allowed_after (terms.flags h) (terms.terms h).wish (Some editing) (wish_allowed h)
 wish_allowed (next h _) = wish_allowed h

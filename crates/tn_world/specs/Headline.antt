@@ -13,6 +13,7 @@ use Rattle.tn_option.specs.declared.q_method.QState.TheVariants.{No, Yes, WantNo
 use Rattle.tn_option.specs.declared.q_method.QState.TheVariants.{WantYesEmpty, WantYesOpposite}
 use Rattle.tn_nvt.specs.Prefixes.{IsPrefixOf}
 use Rattle.tn_world.specs.{Commands.IsTypeable, Opened.IsOpened, Past.HasPast, declared.events.Event.Event}
+use Rattle.tn_server.specs.declared.openings.Opening.{Opening}
 use Rattle.tn_world.specs.{Worlds.{World, RunsEvent, Refuses, canon_of}, declared.faults.Cause.Cause}
 use Rattle.tn_world.specs.declared.events.Event.TheVariants.{Send, SetChar, Propose}
 
@@ -92,7 +93,8 @@ pub record IsOpening (canon : Canon) (w : World) : Type 0 where
   pub standard : canon.settings.chars ≡ standard_characters
   pub width : ℕ
   pub height : ℕ
-  pub opened : IsOpened canon width height w
+  pub opening : Opening
+  pub opened : IsOpened opening canon width height w
 
 -- a beginning: a mark, or the opening
 abbrev pub IsBeginning : Canon → World → Type 0

@@ -3,17 +3,17 @@ use Rattle.std.specs.Prelude.{◌≡◌, ◌⊎◌, ℕ, false, IsFalse, []}
 use Rattle.tn_discipline.specs.Canon.{Canon}
 use Rattle.tn_nvt.specs.Spelling.{spells}
 use Rattle.tn_server.specs.Course as server_courses
-use Rattle.tn_server.specs.Replies.{opening}
+use Rattle.tn_server.specs.{Replies.opening, declared.openings.Opening.Opening}
 use Rattle.tn_server.specs.declared.faults.ServerFault.TheVariants as server_faults
 use Rattle.tn_client.specs.Course as client_courses
 use Rattle.tn_client.specs.declared.faults.ClientFault.TheVariants as client_faults
 use Rattle.tn_world.specs.{Worlds.World, declared.faults.WorldFault.WorldFault}
 use Rattle.tn_world.specs.declared.faults.Cause.TheVariants as cause
 
--- Both ends are where they start, with lines of the same limit, and have read nothing; the terminal takes
+-- Both ends are where they start, the server by this opening, with lines of the same limit, and have read nothing; the terminal takes
 -- keys, and the opening messages are in flight.
-pub record IsOpened (canon : Canon) (width height : ℕ) (w : World) : Type 0 where
-  pub server : server_courses.CourseLeadsTo (server_courses.started canon) w.server
+pub record IsOpened (o : Opening) (canon : Canon) (width height : ℕ) (w : World) : Type 0 where
+  pub server : server_courses.CourseLeadsTo (server_courses.started o canon) w.server
   pub client : client_courses.CourseLeadsTo (client_courses.started width height canon.limit) w.client
   pub takes_keys : IsFalse w.server.terminal.closed
   pub server_runs : IsFalse w.server.failed
@@ -24,7 +24,7 @@ pub record IsOpened (canon : Canon) (width height : ℕ) (w : World) : Type 0 wh
     server_stopped = false;
     client_stopped = false;
     to_server = [];
-    to_client = spells opening;
+    to_client = spells (opening o);
     typed = [];
     taken = [];
     shown = [];

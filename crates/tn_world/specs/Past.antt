@@ -7,7 +7,7 @@ use Rattle.tn_option.specs.{EnginePair.{EnginePair, TalkTo}, Options.new_options
 use Rattle.tn_server.specs.Course as server_courses
 use Rattle.tn_server.specs.Events as server_calls
 use Rattle.tn_server.specs.Calls as server
-use Rattle.tn_server.specs.Replies.{opening}
+use Rattle.tn_server.specs.{Replies.opening, declared.openings.Opening.Opening}
 use Rattle.tn_server.specs.Terms as server_terms
 use Rattle.tn_client.specs.Course as client_courses
 use Rattle.tn_client.specs.Terms as client_terms
@@ -24,14 +24,19 @@ engines w there back =
     }
 
 -- both engines as they begin: the server's opening messages are on their way
-abbrev pub opening_pair : EnginePair
-opening_pair =
+abbrev pub opening_pair : Opening → EnginePair
+opening_pair o =
     record {
-      here = server_terms.opening_options;
+      here = server_terms.opening_options o;
       there = new_options client_terms.agreement;
       to_here = [];
-      to_there = words_in opening;
+      to_there = words_in (opening o);
     }
+
+-- both engines are where a talk leads that began with the opening messages of either opening
+pub record HasTalked (e : EnginePair) : Type 0 where
+  pub opening : Opening
+  pub talk : TalkTo (opening_pair opening) e
 
 -- RFC 1184, section 2.2: no MODE but one that acknowledges
 abbrev pub IsNoWish : Option Payload → Type 0
@@ -60,5 +65,5 @@ pub record HasPast (w : World) : Type 0 where
   pub to_server : IsFalse w.server.failed → (items : List Item) × InFlight w.server.decoder w.to_server items
   pub to_client : IsFalse w.client.failed → (items : List Item) × InFlight w.client.decoder w.to_client items
   pub words : (a : IsFalse w.server.failed) (b : IsFalse w.client.failed)
-      → TalkTo opening_pair (engines w (to_server a).0 (to_client b).0)
+      → HasTalked (engines w (to_server a).0 (to_client b).0)
   pub unwished : (a : IsFalse w.server.failed) → IsFalse w.client.failed → All WishesNothing (to_server a).0

@@ -13,7 +13,7 @@ use std::alloc::Global;
 use std::marker::Model;
 use tn_client::ClientEnd;
 use tn_discipline::{Entry, Limit, Settings};
-use tn_server::ServerEnd;
+use tn_server::{Opening, ServerEnd};
 
 /// A server end, a client end, and the bytes on their way between them. Each event is one call of an
 /// end or one delivery, so that every order of keys, output and network bytes is a list of events.
@@ -68,29 +68,30 @@ impl Model for World {
 }
 
 impl World {
-    /// Opens a world: both ends are started, the client's window with this width and height in
-    /// characters, lines at both with at most `limit` bytes, and the server's opening messages are
-    /// in flight.
+    /// Opens a world: both ends are started, the server with this opening, the client's window with
+    /// this width and height in characters, lines at both with at most `limit` bytes, and the
+    /// server's opening messages are in flight.
     ///
     /// # Errors
     ///
     /// - There is no memory; the fault is that of the end or of the world that lacks it.
     pub fn open(
         alloc: Global,
+        opening: Opening,
         settings: Settings,
         width: u16,
         height: u16,
         limit: Limit,
     ) -> Result<World, WorldFault>
         ensures opened { IfOk result (λ world.
-            IsOpened (record { settings = settings; limit = limit }) width height world) }
+            IsOpened opening (record { settings = settings; limit = limit }) width height world) }
         ensures follows { IfOk result (λ world. settings.chars ≡ standard_characters →
             Follows (record { settings = settings; limit = limit }) world) }
         ensures fault { IfErr result (λ fault. IsOpenFault fault) }
         ensures output { IfOk result (λ world. IsOutput world []) }
     {
         let mut to_client = Vec::new(alloc);
-        let server = match ServerEnd::start(alloc, settings, limit, &mut to_client) {
+        let server = match ServerEnd::open(opening, alloc, settings, limit, &mut to_client) {
             Ok(server) => server,
             Err(fault) => return Err(refused(Cause::Server(fault))),
         };

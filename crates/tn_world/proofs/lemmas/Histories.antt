@@ -14,7 +14,7 @@ use Rattle.tn_linemode.specs.Modes.{Modes, edits}
 use Rattle.tn_nvt.specs.{Spelling.lf, declared.items.Item.{Item, TheVariants.Cmd}, Feeding.failed, Prefixes.IsPrefixOf}
 use Rattle.tn_server.specs.Events as server
 use Rattle.tn_server.specs.{Calls.{End as ServerEnd, LeadsTo}, Lines.{entries, taken_count}, Steps.{end_after as server_after, says as server_said}}
-use Rattle.tn_server.specs.{Terms.Terms, declared.wishes.Editing.Editing}
+use Rattle.tn_server.specs.{Terms.Terms, declared.{openings.Opening.Opening, wishes.Editing.Editing}}
 use Rattle.tn_server.specs.Replies as server_says
 use Rattle.tn_server.specs.Terms as server_terms
 use Rattle.tn_server.proofs.lemmas.Ends.{end_at as server_at, stands_there as server_there, taken_at, taken_got, taken_took, line_is, waits_are}
@@ -212,25 +212,25 @@ returns canon h k x p t =
     (append-nil said) (return-tied t.tied (x ∷ []) n.0 n.1))
 
 -- THE OPENING
-begun : (canon : Canon) (width height : ℕ) → canon.settings.chars ≡ standard_characters
-    → TiedHistories canon (server.begun canon) (client.begun width height canon.limit)
-begun canon width height standard = record {
+begun : (o : Opening) (canon : Canon) (width height : ℕ) → canon.settings.chars ≡ standard_characters
+    → TiedHistories canon (server.begun o canon) (client.begun width height canon.limit)
+begun o canon width height standard = record {
   there = [];
   said = refl;
-  back = server_says.opening;
+  back = server_says.opening o;
   told = refl;
-  tied = begun_tied canon width height (server_at (server.begun canon)) (end_at (client.begun width height canon.limit)) standard
-      (server_there (server.begun canon)) (stands_there (client.begun width height canon.limit));
+  tied = begun_tied o canon width height (server_at (server.begun o canon)) (end_at (client.begun width height canon.limit)) standard
+      (server_there (server.begun o canon)) (stands_there (client.begun width height canon.limit));
 }
 
 -- the histories begin with a request, and with what it echoes shown
-pub begins : (canon : Canon) (editing : Editing) (width height n : ℕ) → canon.settings.chars ≡ standard_characters
-    → TiedHistories canon (server.next (server.next (server.begun canon) (server.wished editing)) (server.pulled n)) (client.begun width height canon.limit)
-begins canon editing width height n standard =
-    let h = server.begun canon in
+pub begins : (o : Opening) (canon : Canon) (editing : Editing) (width height n : ℕ) → canon.settings.chars ≡ standard_characters
+    → TiedHistories canon (server.next (server.next (server.begun o canon) (server.wished editing)) (server.pulled n)) (client.begun width height canon.limit)
+begins o canon editing width height n standard =
+    let h = server.begun o canon in
     let k = client.begun width height canon.limit in
     called canon (server.next h (server.wished editing)) k (server.pulled n) tt
-    (called canon h k (server.wished editing) tt (begun canon width height standard))
+    (called canon h k (server.wished editing) tt (begun o canon width height standard))
 
 -- WHAT IT STATES OF ENTRIES: those that were taken, and those that wait
 pub prefix : (canon : Canon) (h : server.History) (k : client.History) → TiedHistories canon h k

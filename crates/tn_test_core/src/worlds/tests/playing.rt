@@ -6,22 +6,23 @@ use crate::models::characters::Table;
 use std::alloc::Global;
 use std::process::Abort;
 use tn_discipline::{Entry, Limit, Settings};
-use tn_server::Editing;
+use tn_server::{Editing, Opening};
 use tn_world::{Cause, Event, ToWhom, World, WorldFault};
 
 /// The most bytes of a delivery.
 pub(super) const ALL: usize = usize::MAX;
 
 pub(super) fn open(alloc: Global, limit: Limit) -> Result<Box<World>, WorldFault> {
-    open_with(alloc, Settings::standard(), limit)
+    open_with(alloc, Opening::Keys, Settings::standard(), limit)
 }
 
 pub(super) fn open_with(
     alloc: Global,
+    opening: Opening,
     settings: Settings,
     limit: Limit,
 ) -> Result<Box<World>, WorldFault> {
-    match World::open(alloc, settings, 80, 24, limit) {
+    match World::open(alloc, opening, settings, 80, 24, limit) {
         Ok(world) => boxed(alloc, world),
         Err(fault) => Err(fault),
     }

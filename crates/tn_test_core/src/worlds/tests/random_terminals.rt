@@ -9,7 +9,7 @@ use std::process::Abort;
 use tn_client::{ClientFault, UserCommand};
 use tn_codes::Func;
 use tn_discipline::{CharFault, Entry, Limit, Settings, Sig};
-use tn_server::{Editing, ServerFault};
+use tn_server::{Editing, Opening, ServerFault};
 use tn_world::{Cause, Event, World, WorldFault};
 
 const KEYS: [u8; 12] = [b'a', b'b', b'c', 255, 3, 26, 4, 127, 127, 21, 13, 10];
@@ -69,7 +69,12 @@ fn lives(
 }
 
 fn lives_by(rt: &impl Abort, alloc: Global, seed: u32) -> Result<(), WorldFault> {
-    let mut world = open(alloc, Limit::standard())?;
+    let opening = if seed % 2 == 0 {
+        Opening::Keys
+    } else {
+        Opening::Lines
+    };
+    let mut world = open_with(alloc, opening, Settings::standard(), Limit::standard())?;
     lives(rt, alloc, &mut world, &mut Random::new(seed))
 }
 
@@ -193,7 +198,7 @@ fn interrupts_by_no_key(world: &mut World) -> Result<bool, WorldFault> {
 fn a_terminal_without_isig_is_interrupted_by_brk(rt: HostRuntime) -> Result<(), WorldFault> {
     let mut settings = Settings::standard();
     settings.flags.isig = false;
-    let mut world = open_with(rt.alloc(), settings, Limit::standard())?;
+    let mut world = open_with(rt.alloc(), Opening::Keys, settings, Limit::standard())?;
     assert!(&rt; interrupts_by_no_key(&mut world)?);
     Ok(())
 }
