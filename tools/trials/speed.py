@@ -4,14 +4,19 @@ Each of 64 connections types a line with ERASE in it, sometimes with KILL, waits
 times. Passes go in turn over both servers, with a server of its own for each, and all that comes back is compared. With keys in place of
 lines, keys are typed and erased, and each waits for its echo. A case that passes prints for each server the lines per second, and per second
 that its process used of a processor: the median of the passes, and the most. It needs cc and libtelnet (Debian: libtelnet-dev).
+
+And how long the built program takes to show what a server sends in one piece, next to inetutils' telnet.
 """
 import os
+import pty
 import statistics
 import subprocess
+import threading
 import time
+import tty
 
 import basics
-from ends import Serving
+from ends import Listener, Serving
 from services import listened
 from world import NotTried, case, expect_same, free_port, status_of
 
@@ -88,3 +93,50 @@ def all_of_64_sessions_are_answered(world, what, count, times, *forms):
         for form, done in passes.items():
             done.append(run_pass(world, form, programs, times, ["keys"] * (what == "keys")))
     return "\n".join([machine(), *summary(passes, what)])
+
+
+# The messages of a client have no such letter.
+SENT = (b"x" * 62 + b"\r\n") * 320_000
+
+
+def seconds_to_show(world, is_terminal, *words):
+    """How long it takes until all that a server sends has come out of a pipe or a terminal, and the client has ended."""
+    listener = Listener(world)
+    out, screen = pty.openpty() if is_terminal else os.pipe()
+    if is_terminal:
+        tty.setraw(screen)
+    keys, _ = pipe = os.pipe()
+    began = time.monotonic()
+    client = world.start(*words, "127.0.0.1", listener.port, stdin=keys, stdout=screen, stderr=subprocess.DEVNULL)
+    os.close(screen)
+    listener.accept()
+
+    def send():
+        listener.send(SENT)
+        listener.close()
+    sender = threading.Thread(target=send)
+    sender.start()
+    shown = bytearray()
+    try:
+        while piece := os.read(out, 65_536):
+            shown += piece
+    except OSError:  # The end of a terminal.
+        pass
+    status_of(client, words[0])
+    took = time.monotonic() - began
+    sender.join()
+    if words[0] == world.program:  # telnet loses the last at a terminal.
+        expect_same(SENT.count(b"x"), shown.count(b"x"), "how many letters are shown")
+    for end in (out, *pipe):
+        os.close(end)
+    return took
+
+
+@case(long=True, alone=True, seconds=900, wants=["telnet"], each={"pipe": (False,), "terminal": (True,)})
+def what_a_server_sends_is_shown_as_fast_as_by_telnet(world, is_terminal):
+    took = {"tn connect": [], "telnet": []}
+    for _ in range(9):
+        took["tn connect"].append(seconds_to_show(world, is_terminal, world.program, "connect"))
+        took["telnet"].append(seconds_to_show(world, is_terminal, "telnet"))
+    ours, theirs = (statistics.median(times) for times in took.values())
+    return f"{machine()}\n  tn connect: {ours:.2f} s for {len(SENT) / 1e6:.1f} MB; telnet: {theirs:.2f} s, {ours / theirs:.2f} times as long"

@@ -212,6 +212,7 @@ fn main(rt: HostRuntime) -> ExitCode {
             writer: rt.stdout(),
             link: linked,
             is_session,
+            held: Vec::new(alloc),
         },
         is_session,
     };

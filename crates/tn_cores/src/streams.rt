@@ -121,6 +121,13 @@ pub trait Drain {
         ensures bytes { WriteAppends (contents self.old) (contents self.new) result buf.now }
         ensures tells { TellsCall (CountsWrite buf.now result) (told self.old) (told self.new) }
         ensures goes { sending self.new ≡ written_on (sending self.old) };
+
+    /// Passes on what it holds back until more comes. Most writers hold nothing back.
+    fn pass_on(&mut self)
+        ensures contents { Keeps (contents self.old) (contents self.new) }
+        ensures told { told self.new ≡ told self.old }
+        ensures going { sending self.new ≡ sending self.old }
+    {}
 }
 
 /// A writer that is finished when no more comes from this end. Of that call contracts know only
@@ -155,6 +162,11 @@ impl<W: Write> Drain for W {
 
     fn write_some(&mut self, buf: &[u8]) -> Result<usize> {
         self.write(buf)
+    }
+
+    // After a flush that fails, a write fails too.
+    fn pass_on(&mut self) {
+        let _ = self.flush();
     }
 }
 

@@ -12,7 +12,7 @@ use Rattle.tn_nvt.specs.Spelling.{spells}
 use Rattle.tn_session.proofs.{Going.{true_false, false_true, from_to, left_over}, lemmas.Noting.total-push, Stopped.stands_more, Stopping.core_stays}
 use Rattle.tn_session.specs.{CoreTurns.{TurnsTold, ToldAll, told_of, all_told, says, is_over, is_marked_written}, Notes.{Noted, NotesWrite, NotesAll, no_notes}}
 use Rattle.tn_session.specs.{Stops.{StandsTold, core_stops, has_left}, Transcripts.IsStep, declared.workers.mail.{Mail.Mail, Sender.TheVariants.Keys}}
-use Rattle.tn_cores.proofs.lemmas.streams.{Writing.{appends_more, appends_kept, appends_none}, Telling.{accounts_none, accounts_well, accounts_both}}
+use Rattle.tn_cores.proofs.lemmas.streams.{Writing.{appends_more, appends_kept, appends_none, kept_appends}, Telling.{accounts_none, accounts_well, accounts_both}}
 use Rattle.tn_cores.specs.declared.faults.SessionFault.TheVariants as fault
 
 -- a front was shown, and all if no write failed
@@ -334,6 +334,21 @@ told_kept a b ms x y z u v k same g = (
   refl,
   refl,
 )
+
+-- a turn before which the screen passed on what it held back
+pub turned_kept : (a b : Core) (m : Told) (w : KnownWriting) (u v s : KnownWriter) (n o : Noted) → Keeps u.bytes v.bytes → v.calls ≡ u.calls
+    → TurnsTold a m w (from_to v s) n o b → TurnsTold a m w (from_to u s) n o b
+turned_kept a b m w u v s n o keeps same t = record {
+  mark = t.mark;
+  bytes = t.bytes;
+  text = t.text;
+  wrote = t.wrote;
+  showed = appends_more u.bytes v.bytes s.bytes [] t.text (kept_appends u.bytes v.bytes keeps) t.showed;
+  noted = t.noted;
+  tells = t.tells;
+  tells_shown = subst (λ (c : Option Calls). Tells (no_show_failed t.mark) c s.calls) same t.tells_shown;
+  turn = t.turn;
+}
 
 -- the core's state before the first mail
 pub told_first : (a : Core) (x u : KnownWriter) → (goes : ToldAll a [] (from_to x x) (from_to u u) a)

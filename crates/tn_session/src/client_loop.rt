@@ -1,12 +1,14 @@
 //! The core of a client's session, which handles messages until both senders have left.
 
-ghost use Rattle.std.specs.Prelude.{◌≡◌, ◌&&◌, ◌||◌, not, true, IsTrue, Some, [], IfSome};
+ghost use Rattle.std.specs.Prelude.{◌≡◌, ◌&&◌, ◌||◌, not, true, IsTrue, List, Some, [], IfSome};
+ghost use Rattle.std.specs.Io.KnownBytes.{Keeps};
 ghost use Rattle.crossbeam_channel.specs.{Claims.{view, IsSeatAt}, Ends.{receives_on, sends_on}};
 ghost use Rattle.tn_cores.specs.{client.Marks.is_whole, queue.Queue.putter, streams.Known.known_writing};
 ghost use Rattle.tn_cores.specs.streams.Sending.{StaysOpen, IsFinished};
-ghost use Rattle.tn_session.specs.{Notes.noted_of, CoreTurns.{TurnsTold, CoreHandles, origin_of, told_of}};
+ghost use Rattle.tn_session.specs.{Notes.{noted_of, takes}, workers.Mailbox.handed};
+ghost use Rattle.tn_session.specs.CoreTurns.{TurnsTold, CoreHandles, origin_of, told_of};
 ghost use Rattle.tn_session.specs.Stops.{core_stops, leaves as leaves_of};
-ghost use Rattle.tn_session.specs.declared.workers.mail.Sender.TheVariants.{Keys};
+ghost use Rattle.tn_session.specs.declared.workers.mail.{Mail.Mail as MailT, Sender.TheVariants.Keys};
 
 use crate::closing::finish_once;
 use crate::stops::Watched;
@@ -111,6 +113,38 @@ fn closes(progress: ClientProgress) -> bool
     progress.over || progress.closed
 }
 
+// Takes the next message. What the screen holds back is shown before this thread waits for one, and
+// once a sender leaves. It returns `None` if the other end of the mailbox is gone.
+fn next_mail<R: Wait, S: Drain>(
+    rt: &R,
+    transcript: &mut Transcript,
+    from: &MailReceiver,
+    pass: &mut MailPass,
+    screen: &mut S,
+) -> Option<Mail>
+    requires seat { IsSeatAt (receives_on from.now) pass.old }
+    requires role { (l : List MailT) × ((view pass.old).handled ≡ Some l) }
+    ensures seat { IsSeatAt (receives_on from.now) pass.new }
+    ensures handled { IfSome result (λ mail. view pass.new ≡ handed (view pass.old) mail) }
+    ensures noted { IfSome result (λ mail.
+        noted_of transcript.new ≡ takes (noted_of transcript.old) mail) }
+    ensures shown { Keeps (S.contents screen.old) (S.contents screen.new) }
+    ensures told { S.told screen.new ≡ S.told screen.old }
+{
+    match transcript.look(rt, from, pass) {
+        Some(mail) => {
+            if leaves(&mail.message) > 0 {
+                screen.pass_on();
+            }
+            Some(mail)
+        },
+        None => {
+            screen.pass_on();
+            transcript.take(rt, from, pass)
+        },
+    }
+}
+
 // Returns whether Keys has left, after this message.
 fn has_left(before: bool, mail: &Mail) -> bool
     ensures { result ≡ (before || leaves_of Keys mail.now) }
@@ -166,7 +200,7 @@ pub(crate) fn run_core<R: Wait, W: Finish, S: Drain, G: Gate>(
             finish_unless(closed, writer);
             return Some(output.transcript);
         }
-        let mail = output.transcript.take(rt, from, pass)?;
+        let mail = next_mail(rt, &mut output.transcript, from, pass, screen)?;
         let left = leaves(&mail.message);
         keys_left = has_left(keys_left, &mail);
         turn(

@@ -1,6 +1,6 @@
 //! The transcript of a session's core, noted as the core acts.
 
-ghost use Rattle.std.specs.Prelude.{◌≡◌, ◌∷◌, [], List, Some, IfSome, IsTrue};
+ghost use Rattle.std.specs.Prelude.{◌≡◌, ◌∷◌, [], List, None, Some, IfSome, IsTrue};
 ghost use Rattle.crossbeam_channel.specs.{Claims.{view, IsSeatAt}, Ends.receives_on};
 ghost use Rattle.tn_session.specs.{workers.Mailbox.handed, declared.workers.mail.Mail.Mail as MailT};
 ghost use Rattle.tn_session.specs.Notes.{NotesWrite, no_notes, noted_of, takes, writes};
@@ -64,6 +64,13 @@ impl Transcript {
         transcript
     }
 
+    // Notes that this message was taken.
+    fn note(&mut self, mail: &Mail)
+        ensures { noted_of self.new ≡ takes (noted_of self.old) mail.now }
+    {
+        *self = mem::replace(self, Transcript::new()).taking(mail);
+    }
+
     /// Takes the next message. It returns `None` if the other end of the mailbox is gone.
     pub(crate) fn take<R: Wait>(
         &mut self,
@@ -80,7 +87,29 @@ impl Transcript {
         let Ok(mail) = from.recv_as::<Handles, R>(rt, pass) else {
             return None;
         };
-        *self = mem::replace(self, Transcript::new()).taking(&mail);
+        self.note(&mail);
+        Some(mail)
+    }
+
+    /// Takes the next message if one waits.
+    pub(crate) fn look<R: Wait>(
+        &mut self,
+        rt: &R,
+        from: &MailReceiver,
+        pass: &mut MailPass,
+    ) -> Option<Mail>
+        requires seat { IsSeatAt (receives_on from.now) pass.old }
+        requires role { (l : List MailT) × ((view pass.old).handled ≡ Some l) }
+        ensures seat { IsSeatAt (receives_on from.now) pass.new }
+        ensures handled { IfSome result (λ mail. view pass.new ≡ handed (view pass.old) mail) }
+        ensures noted { IfSome result (λ mail. noted_of self.new ≡ takes (noted_of self.old) mail) }
+        ensures none { result ≡ None → view pass.new ≡ view pass.old }
+        ensures none_noted { result ≡ None → noted_of self.new ≡ noted_of self.old }
+    {
+        let Ok(mail) = from.try_recv_as::<Handles, R>(rt, pass) else {
+            return None;
+        };
+        self.note(&mail);
         Some(mail)
     }
 

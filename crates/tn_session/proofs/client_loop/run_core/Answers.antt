@@ -2,14 +2,14 @@ use Rattle.std.proofs.Common.{◌∙◌, ◌||◌, ◌&&◌, not, ap, refl, sym,
 use Rattle.crossbeam_channel.specs.Claims.{view}
 use Rattle.tn_cores.specs.{declared.client.{messages.{ClientMark.ClientMark, Told.Told}, progress.ClientProgress.ClientProgress}, client.Marks.Runs}
 use Rattle.tn_cores.specs.streams.Known.{known_writer, known_writing}
-use Rattle.tn_session.proofs.{CoreGoing.{told_first, told_next, told_kept, core_told}, Finishing.{open_none, stands_next, stands_last, stays_done}}
+use Rattle.tn_session.proofs.{CoreGoing.{told_first, told_next, told_kept, turned_kept, core_told}, Finishing.{open_none, stands_next, stands_last, stays_done}}
 use Rattle.tn_session.proofs.{Going.{false_true, lefts_of-push, left_small, notes_next, notes_kept}, Mailbox.handled_more, Stopped.{left_next, stands_first}}
 use Rattle.tn_session.specs.{CoreTurns.{TurnsTold, all_told, told_of}, Notes.{Noted, NotesAll, no_notes, noted_of}, Stops.{StandsTold, core_stops}}
 use Rattle.tn_session.specs.declared.workers.mail.{Mail.Mail, Sender.TheVariants.Keys}
 use Rattle.tn_session.proofs.client_loop.run_core.Goals as goal
 
-pub take-requires-clause-role : goal.take-requires-clause-role
-take-requires-clause-role g c = (c.loop.invariant.1.0, ap (λ v. v.handled) c.loop.invariant.1.1)
+pub next_mail-requires-clause-role : goal.next_mail-requires-clause-role
+next_mail-requires-clause-role g c = (c.loop.invariant.1.0, ap (λ v. v.handled) c.loop.invariant.1.1)
 
 pub loop-init : goal.loop-init
 loop-init g c =
@@ -42,26 +42,28 @@ loop-preserved g c =
     let small = left_small x.message in
     let more = c.if-lefts-ge-SENDERS.false in
     let T : Told → Type 0 = λ m. TurnsTold c.loop.core m (known_writing g.W.Drain.contents g.W.Drain.told c.loop.writer c.turn.new.writer)
-    (known_writing g.S.Drain.contents g.S.Drain.told c.loop.screen c.turn.new.screen) (noted_of c.take.new.self)
+    (known_writing g.S.Drain.contents g.S.Drain.told c.next_mail.new.screen c.turn.new.screen) (noted_of c.next_mail.new.transcript)
     (noted_of c.turn.new.output.transcript) c.turn.new.core in
     let writer = known_writer g.W.Drain.contents g.W.Drain.told in
     let screen = known_writer g.S.Drain.contents g.S.Drain.told in
-    let turned = subst T c.told_of.ensures c.turn.ensures.turned in
+    let turned = turned_kept c.loop.core c.turn.new.core (told_of x) (known_writing g.W.Drain.contents g.W.Drain.told c.loop.writer c.turn.new.writer)
+    (screen c.loop.screen) (screen c.next_mail.new.screen) (screen c.turn.new.screen) (noted_of c.next_mail.new.transcript)
+    (noted_of c.turn.new.output.transcript) c.next_mail.ensures.shown c.next_mail.ensures.told (subst T c.told_of.ensures c.turn.ensures.turned) in
     let told = told_next c.args.core.now c.loop.core c.turn.new.core i.0 x (writer c.args.writer.now) (writer c.loop.writer) (writer c.turn.new.writer)
-    (writer c.finish_once-closed.new.writer) (screen c.args.screen.now) (screen c.loop.screen) (screen c.turn.new.screen) (noted_of c.take.new.self)
+    (writer c.finish_once-closed.new.writer) (screen c.args.screen.now) (screen c.loop.screen) (screen c.turn.new.screen) (noted_of c.next_mail.new.transcript)
     (noted_of c.turn.new.output.transcript) c.finish_once-closed.ensures.contents c.finish_once-closed.ensures.told i.3 turned in
     let left = left_next Keys i.0 x c.loop.keys_left c.has_left-keys_left.result i.4 c.has_left-keys_left.ensures in (
-      c.take.ensures.seat,
+      c.next_mail.ensures.seat,
       (
         i.0 ++ x ∷ [],
-        handled_more (view c.args.pass.now) (view c.loop.pass) (view c.take.new.pass) i.0 x i.1 c.in_ok-mail.ensures.handled,
+        handled_more (view c.args.pass.now) (view c.loop.pass) (view c.next_mail.new.pass) i.0 x i.1 c.in_ok-mail.ensures.handled,
         omega (arith, lefts_of-push i.0 x, c.leaves-left.ensures, i.2),
         told.0,
         left,
         core_told c.args.core.now c.loop.core c.turn.new.core i.0 x _ _ _ _ _ _ _ _ c.loop.told c.is_due.result c.in_ok-told-2.told c.has_left-keys_left.result
             i.3 turned told.0 told.1.0 left (c.is_due.ensures ∙ ap
             (λ (p : ClientProgress). core_stops p && not c.has_left-keys_left.result) c.progress-in-loop-2.ensures) c.in_ok-told-2.ensures.told i.5,
-        notes_next i.0 x i.3.steps told.0.steps (told_of x, turned.mark) turned.bytes no_notes (noted_of c.loop.output.transcript) (noted_of c.take.new.self)
+        notes_next i.0 x i.3.steps told.0.steps (told_of x, turned.mark) turned.bytes no_notes (noted_of c.loop.output.transcript) (noted_of c.next_mail.new.transcript)
             (noted_of c.turn.new.output.transcript) i.6 told.1.1 c.in_ok-mail.ensures.noted turned.noted,
       ),
       c.turn.ensures.out,

@@ -98,6 +98,7 @@ where
         writer: Dead,
         link: Arc::try_clone(&link)?,
         is_session: false,
+        held: Vec::new(alloc),
     };
     connect_here(rt, alloc, port, link, Cursor::new(*b""), &mut screen)
 }
