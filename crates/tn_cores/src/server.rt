@@ -1,7 +1,7 @@
 //! The terminal of a running session: only this machine uses the server end, one message at a time.
 //!
 //! ```
-//! let mut term = Term::start(alloc, settings, limit, Editing::Remote, jobs, &mut out)?;
+//! let mut term = Term::start(alloc, settings, limit, approach, jobs, &mut out)?;
 //! let outcome = term.handle(Message::Piece(bytes), &mut out); // `out` is to be sent to the network
 //! match outcome.put {
 //!     Put::Nothing => {},

@@ -43,7 +43,7 @@ echo_keeps_them false wanted o = refl
 
 terms_keep_them : (f : Flags) (t : Terms) (o : Options) (ed : Option Editing) (set : Bool) → (terms_by f t o ed set).options.them ≡ o.them
 terms_keep_them f t o ed set =
-    let wish = wish_after f t.wish ed in echo_keeps_them (asks_echo t.options o (mask_told t o wish) set) (wants_echo (asked_mask_of o wish) f) o
+    let wish = wish_after f t.wish ed in echo_keeps_them (asks_echo t.options o (mask_told t o wish) set) (wants_echo t.opening o (asked_mask_of o wish) f) o
 
 caused_them : (o p : Options) (side : Side) (cause : OptionEvent) (option : Option Known) → o.them ≡ p.them
     → (options_after_cause o side cause option).them ≡ (options_after_cause p side cause option).them

@@ -7,7 +7,7 @@ use Rattle.tn_nvt.specs.Feeding as nvt
 use Rattle.tn_nvt.specs.{declared.items.Item.Item, Spelling.spells}
 use Rattle.tn_jobs.specs.{Jobs.{Jobs, state_at, is_foreground}, declared.verdicts.{JobState.{JobState, TheVariants.{Stopped, Ended}}, Why.Why}}
 use Rattle.tn_server.specs.{Lines.waiting, Answering.Feeds as EndFeeds, Events.{History, next, took, wrote, items, begun, wished}, Calls.End}
-use Rattle.tn_server.specs.{Replies.{items_said, opening as opening_words}, declared.wishes.Editing.Editing, Steps.{end_after, says, says_items}}
+use Rattle.tn_server.specs.{Replies.{items_said, opening as opening_words}, declared.openings.Approach.Approach, Steps.{end_after, says, says_items}}
 use Rattle.tn_server.proofs.lemmas.{Ends.waits_are, Gathering.items_keep, Leading.{stands_fed, says_as, says_all}, Histories.{items-gets, opening-gets}}
 use Rattle.tn_server.specs.Calls as server
 use Rattle.tn_cores.specs.{declared.server.progress.ServerProgress.ServerProgress, server.Reaching.{LeadsTo, FollowsPath, AdvancesRun, Feeds, HaltsIf}}
@@ -234,15 +234,15 @@ does_halt_if false old new put x h =
     (subst (λ (ps : List (Option Entry)). AdvancesRun (λ c. c) old x x ps old) (sym h.1) (does_nothing old x))
 
 -- the end is started
-pub starts : (canon : Canon) (editing : Editing) (jobs : Jobs) (begun_end wished_end end : End) (term : Term) (x y z : List ℕ)
-    → server.LeadsTo (begun canon) begun_end → nvt.LeadsTo [] [] begun_end.decoder → begun_end.failed ≡ false → begun_end.terminal.closed ≡ false
-    → wished_end ≡ end_after begun_end (wished editing) → y ≡ x ++ spells (says begun_end (wished editing)) → FollowsPath flushed_history wished_end y z end
-    → term ≡ record { end = end; table = jobs; tostop = canon.settings.flags.tostop; progress = nothing_yet } → LeadsTo (start canon editing jobs) term
-starts canon editing jobs begun_end wished_end end term x y z s r runs opens step said f is =
-    let goes = follows_call begun_end wished_end (wished editing) x y tt step said in
+pub starts : (canon : Canon) (approach : Approach) (jobs : Jobs) (begun_end wished_end end : End) (term : Term) (x y z : List ℕ)
+    → server.LeadsTo (begun approach.opening canon) begun_end → nvt.LeadsTo [] [] begun_end.decoder → begun_end.failed ≡ false → begun_end.terminal.closed ≡ false
+    → wished_end ≡ end_after begun_end (wished approach.editing) → y ≡ x ++ spells (says begun_end (wished approach.editing)) → FollowsPath flushed_history wished_end y z end
+    → term ≡ record { end = end; table = jobs; tostop = canon.settings.flags.tostop; progress = nothing_yet } → LeadsTo (start canon approach jobs) term
+starts canon approach jobs begun_end wished_end end term x y z s r runs opens step said f is =
+    let goes = follows_call begun_end wished_end (wished approach.editing) x y tt step said in
     rw is (record {
       live = λ _. record {
-        leads = f.leads (next (begun canon) (wished editing)) (goes.leads (begun canon) s);
+        leads = f.leads (next (begun approach.opening canon) (wished approach.editing)) (goes.leads (begun approach.opening canon) s);
         read = read_as begun_end.decoder end.decoder [] [] [] (f.decoder ∙ goes.decoder) refl r;
         bytes = All-nil (λ b. b < 256);
         failed = f.failed ∙ goes.failed ∙ runs;
@@ -253,16 +253,16 @@ starts canon editing jobs begun_end wished_end end term x y z s r runs opens ste
       progress = refl;
     })
 
-pub start_sends : (canon : Canon) (editing : Editing) (begun_end wished_end end : End) (x₀ x y z : List ℕ) → x₀ ≡ [] → x ≡ x₀ ++ spells opening_words
-    → server.LeadsTo (begun canon) begun_end → wished_end ≡ end_after begun_end (wished editing) → y ≡ x ++ spells (says begun_end (wished editing))
+pub start_sends : (canon : Canon) (approach : Approach) (begun_end wished_end end : End) (x₀ x y z : List ℕ) → x₀ ≡ [] → x ≡ x₀ ++ spells (opening_words approach.opening)
+    → server.LeadsTo (begun approach.opening canon) begun_end → wished_end ≡ end_after begun_end (wished approach.editing) → y ≡ x ++ spells (says begun_end (wished approach.editing))
     → FollowsPath flushed_history wished_end y z end
-    → z ≡ spells (items_said (opening canon editing))
-start_sends canon editing begun_end wished_end end x₀ x y z e₀ e s step said f =
-    let h = begun canon in
-    let goes = follows_call begun_end wished_end (wished editing) x y tt step said in
-    let first : x ≡ spells opening_words = e ∙ ap (λ (bs : List ℕ). bs ++ spells opening_words) e₀ in
-    let second : y ≡ spells (items_said (next h (wished editing))) =
-    said ∙ ap (λ (bs : List ℕ). bs ++ spells (says begun_end (wished editing))) first
-    ∙ sym (spells-append opening_words (says begun_end (wished editing))) ∙ ap (λ (xs : List Item). spells (opening_words ++ xs)) (sym (says_as h begun_end (wished editing) s)) in
-    f.appended ∙ ap (λ (bs : List ℕ). bs ++ spells f.said) second ∙ sym (spells-append (items_said (next h (wished editing))) f.said)
-    ∙ ap spells (sym (f.sends (next h (wished editing)) (goes.leads h s)))
+    → z ≡ spells (items_said (opening canon approach))
+start_sends canon approach begun_end wished_end end x₀ x y z e₀ e s step said f =
+    let h = begun approach.opening canon in
+    let goes = follows_call begun_end wished_end (wished approach.editing) x y tt step said in
+    let first : x ≡ spells (opening_words approach.opening) = e ∙ ap (λ (bs : List ℕ). bs ++ spells (opening_words approach.opening)) e₀ in
+    let second : y ≡ spells (items_said (next h (wished approach.editing))) =
+    said ∙ ap (λ (bs : List ℕ). bs ++ spells (says begun_end (wished approach.editing))) first
+    ∙ sym (spells-append (opening_words approach.opening) (says begun_end (wished approach.editing))) ∙ ap (λ (xs : List Item). spells ((opening_words approach.opening) ++ xs)) (sym (says_as h begun_end (wished approach.editing) s)) in
+    f.appended ∙ ap (λ (bs : List ℕ). bs ++ spells f.said) second ∙ sym (spells-append (items_said (next h (wished approach.editing))) f.said)
+    ∙ ap spells (sym (f.sends (next h (wished approach.editing)) (goes.leads h s)))

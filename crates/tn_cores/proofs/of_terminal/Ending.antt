@@ -3,7 +3,7 @@ use Rattle.std.proofs.Common.{◌≡◌, ◌⊎◌, inl, inr, ⊎_elim, ℕ, Boo
 use Rattle.tn_discipline.specs.Canon.{Canon}
 use Rattle.tn_jobs.specs.{Jobs.Jobs, declared.verdicts.{JobState.JobState, Verdict.Verdict}}
 use Rattle.tn_jobs.specs.declared.verdicts.JobState.TheVariants as job
-use Rattle.tn_server.specs.declared.wishes.Editing.{Editing}
+use Rattle.tn_server.specs.declared.openings.Approach.{Approach}
 use Rattle.tn_cores.proofs.of_terminal.Hanging.{ended_of, ask_ended, halt_ended}
 use Rattle.tn_cores.proofs.lemmas.Ending.{Moves, first_cases, moves_as, moves_first, run_moves, fault_came}
 use Rattle.tn_cores.specs.{Counting.first_end, server.{Ending.{EndsAt, IsEndedAt, IsFaultCause}, Marks.{Turns, Runs, put_or_not, run_after_opening}, Run.start}}
@@ -85,14 +85,14 @@ ended_at opens c marked _ r = r
 fault_is : (f g : SessionFault) → ended.Fault f ≡ ended.Fault g → f ≡ g
 fault_is f g e = cc
 
-pub fault_cause : (opens : Bool) (canon : Canon) (editing : Editing) (jobs : Jobs) (marked : List (Message × ServerMark)) (new : Run) (f : SessionFault)
-    → Runs (run_after_opening opens (start canon editing jobs)) marked new → new.progress.ended ≡ ended.Fault f
-    → IsFaultCause opens (run_after_opening opens (start canon editing jobs)) marked f
-fault_cause true canon editing jobs marked new f runs e =
-    let c = start canon editing jobs in
+pub fault_cause : (opens : Bool) (canon : Canon) (approach : Approach) (jobs : Jobs) (marked : List (Message × ServerMark)) (new : Run) (f : SessionFault)
+    → Runs (run_after_opening opens (start canon approach jobs)) marked new → new.progress.ended ≡ ended.Fault f
+    → IsFaultCause opens (run_after_opening opens (start canon approach jobs)) marked f
+fault_cause true canon approach jobs marked new f runs e =
+    let c = start canon approach jobs in
     ended_at true c marked f (fault_came Turns (λ at m k. EndsAt at m.0 m.1 k) ended_of turned marked c new f runs refl e)
-fault_cause false canon editing jobs marked new f runs e =
-    let c = run_after_opening false (start canon editing jobs) in
+fault_cause false canon approach jobs marked new f runs e =
+    let c = run_after_opening false (start canon approach jobs) in
     ⊎_elim
     (λ s. subst (λ (g : SessionFault). IsFaultCause false c marked g) (sym (fault_is f fault.Write (sym e ∙ s))) (inl refl))
     (λ r. ended_at false c marked f (subst (λ (x : Ended). IsEndedAt c marked x) e r))

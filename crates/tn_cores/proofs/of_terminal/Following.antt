@@ -19,7 +19,7 @@ bounded_fitted q s old = bounded_if (nat_le (length q + length s) 4096) q s refl
 
 -- the queue never holds more than 4,096 symbols
 pub queue_bound : (h : History) → length (queue h) ≤ 4096
-queue_bound (begun s) = omega arith
+queue_bound (begun o s) = omega arith
 queue_bound (next h (got item)) = bounded_fitted (queue h) _ (queue_bound h)
 queue_bound (next h (wrote bytes)) = let old = queue_bound h in grind (arith, length-append, length-map, length-take, old)
 queue_bound (next h (pulled n)) = let old = queue_bound h in grind (arith, length-drop, old)

@@ -6,7 +6,7 @@ use Rattle.tn_discipline.specs.{Canon.Canon, declared.reads.Entry.Entry}
 use Rattle.tn_jobs.specs.{Jobs.{Jobs, state_at, with_state, is_foreground}, declared.verdicts.{After.After, JobState.JobState, Verdict.Verdict}}
 use Rattle.tn_jobs.specs.declared.verdicts.After.TheVariants as next
 use Rattle.tn_jobs.specs.declared.verdicts.JobState.TheVariants as job
-use Rattle.tn_server.specs.{Events.{History, next as grown, took, wrote}, Lines.{entries, taken_count, waiting}, declared.wishes.Editing.Editing}
+use Rattle.tn_server.specs.{Events.{History, next as grown, took, wrote}, Lines.{entries, taken_count, waiting}, declared.openings.Approach.Approach}
 use Rattle.tn_cores.proofs.lemmas.server.Giving.{acts_of, gives_acts, gives_gets, gives_start}
 use Rattle.tn_cores.specs.{Counting.first_end, server.{Giving.{entries_put, Gives}, Marks.{Turns, Runs, put_or_not, run_after_opening}}, Pieces.bytes_in}
 use Rattle.tn_cores.specs.{server.Hearing.{heard, at_end_after, MayCome, MayAllCome, KeepsOn, AllKeepOn, HangsUp}, declared.faults.Ended.Ended}
@@ -418,27 +418,27 @@ all_calm id ((m, k) ∷ marked) c new others f e may s =
       stream = more.stream ∙ ap (λ (bs : List ℕ). bs ++ heard (messages marked)) one.stream ∙ append_assoc c.stream (bytes_in m) (heard (messages marked));
     }
 
-started : (id : ℕ) (canon : Canon) (editing : Editing) (jobs : Jobs) → state_at jobs id ≡ Some job.Foreground → Calm id (start canon editing jobs)
-started id canon editing jobs front = record {
+started : (id : ℕ) (canon : Canon) (approach : Approach) (jobs : Jobs) → state_at jobs id ≡ Some job.Foreground → Calm id (start canon approach jobs)
+started id canon approach jobs front = record {
   on = refl;
-  gives = gives_start canon editing;
+  gives = gives_start canon approach;
   asks = λ a. absurd (false_true a);
   ends = λ es is. absurd (none_some None es refl is);
   front = front;
 }
 
 -- if the opening messages were not written, the session has failed
-opened : (b : Bool) (canon : Canon) (editing : Editing) (jobs : Jobs) → ended_of (run_after_opening b (start canon editing jobs)) ≡ ended.HangUp → b ≡ true
-opened true canon editing jobs e = refl
-opened false canon editing jobs e = absurd (not_fault ended.HangUp fault.Write e)
+opened : (b : Bool) (canon : Canon) (approach : Approach) (jobs : Jobs) → ended_of (run_after_opening b (start canon approach jobs)) ≡ ended.HangUp → b ≡ true
+opened true canon approach jobs e = refl
+opened false canon approach jobs e = absurd (not_fault ended.HangUp fault.Write e)
 
-pub hangs_up : (b : Bool) (canon : Canon) (editing : Editing) (jobs : Jobs) (id : ℕ) (marked : List (Message × ServerMark)) (new : Run) → OthersStay
-    → Runs (run_after_opening b (start canon editing jobs)) marked new → ended_of new ≡ ended.HangUp → state_at jobs id ≡ Some job.Foreground
+pub hangs_up : (b : Bool) (canon : Canon) (approach : Approach) (jobs : Jobs) (id : ℕ) (marked : List (Message × ServerMark)) (new : Run) → OthersStay
+    → Runs (run_after_opening b (start canon approach jobs)) marked new → ended_of new ≡ ended.HangUp → state_at jobs id ≡ Some job.Foreground
     → MayAllCome false (messages marked) → HangsUp id (messages marked) new
-hangs_up b canon editing jobs id marked new others runs e front may =
-    let begin = opened b canon editing jobs (runs_ended marked (run_after_opening b (start canon editing jobs)) new runs e) in
-    let P : Bool → Type 0 = λ o. Runs (run_after_opening o (start canon editing jobs)) marked new in
-    let all = all_calm id marked (start canon editing jobs) new others (subst P begin runs) e may (started id canon editing jobs front) in
+hangs_up b canon approach jobs id marked new others runs e front may =
+    let begin = opened b canon approach jobs (runs_ended marked (run_after_opening b (start canon approach jobs)) new runs e) in
+    let P : Bool → Type 0 = λ o. Runs (run_after_opening o (start canon approach jobs)) marked new in
+    let all = all_calm id marked (start canon approach jobs) new others (subst P begin runs) e may (started id canon approach jobs front) in
     record {
       kept_on = all.keeps;
       all_heard = all.stream;

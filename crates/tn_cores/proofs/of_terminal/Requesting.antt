@@ -9,7 +9,7 @@ use Rattle.tn_cores.specs.server.Run.{halt, fail, end_if, echo_by, turn_echo, af
 use Rattle.tn_cores.specs.declared.{messages.Message.{Message, TheVariants.{Piece, HangUp, ReadFailed, Take, Said, Refused}}, faults.Ended.TheVariants.Fault}
 use Rattle.tn_cores.specs.{declared.server.messages.ServerMark.ServerMark, server.Requests.{open_requests, request_of, requests_among, AnswersRequests}}
 use Rattle.tn_cores.specs.declared.faults.SessionFault.TheVariants as fault
-use Rattle.tn_server.specs.{Events.{next, took}, Lines.waiting, declared.wishes.Editing.Editing}
+use Rattle.tn_server.specs.{Events.{next, took}, Lines.waiting, declared.openings.Approach.Approach}
 use Rattle.tn_cores.specs.declared.server.messages.ServerMark.TheVariants as mark
 
 -- the entries that were put, and a request that waits
@@ -117,13 +117,13 @@ by_run c [] new e = let f = ap answered e in omega arith
 by_run c (m ∷ marked) new (middle, turns, more) =
     let l = by_turn c m.0 m.1 middle turns in let r = by_run middle marked new more in omega arith
 
-by_opening : (opens : Bool) (canon : Canon) (editing : Editing) (jobs : Jobs) → answered (run_after_opening opens (start canon editing jobs)) ≡ 0
-by_opening true canon editing jobs = refl
-by_opening false canon editing jobs = by_fail fault.Write (start canon editing jobs)
+by_opening : (opens : Bool) (canon : Canon) (approach : Approach) (jobs : Jobs) → answered (run_after_opening opens (start canon approach jobs)) ≡ 0
+by_opening true canon approach jobs = refl
+by_opening false canon approach jobs = by_fail fault.Write (start canon approach jobs)
 
-pub puts_answer : (opens : Bool) (canon : Canon) (editing : Editing) (jobs : Jobs) (marked : List (Message × ServerMark)) (new : Run)
-    → Runs (run_after_opening opens (start canon editing jobs)) marked new → AnswersRequests (requests_among marked) new
-puts_answer opens canon editing jobs marked new runs =
-    let r = by_run (run_after_opening opens (start canon editing jobs)) marked new runs in
-    let o = by_opening opens canon editing jobs in
+pub puts_answer : (opens : Bool) (canon : Canon) (approach : Approach) (jobs : Jobs) (marked : List (Message × ServerMark)) (new : Run)
+    → Runs (run_after_opening opens (start canon approach jobs)) marked new → AnswersRequests (requests_among marked) new
+puts_answer opens canon approach jobs marked new runs =
+    let r = by_run (run_after_opening opens (start canon approach jobs)) marked new runs in
+    let o = by_opening opens canon approach jobs in
     omega arith

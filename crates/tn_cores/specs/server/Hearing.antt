@@ -4,7 +4,7 @@ use Rattle.std.specs.Prelude.{flat_map}
 use Rattle.tn_discipline.specs.{Canon.Canon, declared.reads.Entry.Entry}
 use Rattle.tn_jobs.specs.declared.verdicts.After.TheVariants.{Done}
 use Rattle.tn_nvt.specs.declared.items.Item.{Item}
-use Rattle.tn_server.specs.{Events.{items, gets}, Lines.entries, declared.wishes.Editing.Editing}
+use Rattle.tn_server.specs.{Events.{items, gets}, Lines.entries, declared.openings.Approach.Approach}
 use Rattle.tn_linemode.specs.Prefixes.{IsRead}
 use Rattle.tn_cores.specs.{server.Run.{Run, opening}, Pieces.bytes_in, declared.messages.Message.Message}
 use Rattle.tn_cores.specs.declared.messages.Message.TheVariants.{Piece, HangUp, ReadFailed, Said, Refused}
@@ -42,17 +42,17 @@ AllKeepOn id [] = Unit {0}
 AllKeepOn id (m ∷ messages) = KeepsOn id m × AllKeepOn id messages
 
 -- the entries of a terminal that these items come to, whatever else is done there
-abbrev pub entries_by : Canon → Editing → List Item → List Entry
-entries_by canon editing xs = entries (gets (opening canon editing) xs)
+abbrev pub entries_by : Canon → Approach → List Item → List Entry
+entries_by canon approach xs = entries (gets (opening canon approach) xs)
 
 -- The stream is the first bytes of the pieces, and all of them while messages have their effect; its items
 -- are read by the definitions of the stream, and the entries are theirs.
-pub record Hears (canon : Canon) (editing : Editing) (messages : List Message) (c : Run) : Type 0 where
+pub record Hears (canon : Canon) (approach : Approach) (messages : List Message) (c : Run) : Type 0 where
   pub unheard : List ℕ
   pub stream_first : heard messages ≡ c.stream ++ unheard
   pub all : IsFalse c.progress.over → unheard ≡ []
   pub read : IsRead c.stream (items c.history)
-  pub entries_are : entries c.history ≡ entries_by canon editing (items c.history)
+  pub entries_are : entries c.history ≡ entries_by canon approach (items c.history)
 
 -- the entries that are put before the first end are these
 abbrev pub AllBeforeEnd : List (Option Entry) → List Entry → Type 0

@@ -6,7 +6,7 @@ use Rattle.tn_jobs.specs.{Jobs.{Jobs, state_at, with_state, is_foreground}, Judg
 use Rattle.tn_jobs.specs.declared.verdicts.{After.After, JobState.JobState, Why.Why, Verdict.Verdict}
 use Rattle.tn_jobs.specs.declared.verdicts.JobState.TheVariants as job
 use Rattle.tn_nvt.specs.declared.items.Item.{Item}
-use Rattle.tn_server.specs.{Course.in_parts, Lines.waiting, Screen.queue, declared.wishes.Editing.Editing}
+use Rattle.tn_server.specs.{Course.in_parts, Lines.waiting, Screen.queue, declared.openings.Approach.Approach}
 use Rattle.tn_server.specs.Events.{History, begun, next, took, pulled, wished, echo_set, gets, items}
 use Rattle.tn_server.specs.Events.{opening_settings}
 use Rattle.tn_linemode.specs.Prefixes.{IsRead}
@@ -218,14 +218,14 @@ abbrev pub Handles : Run → Message → Run → Type 0
 Handles c message new = ActsUnless c.progress.over c message new
 
 -- the end before the first message
-abbrev pub opening : Canon → Editing → History
-opening canon editing = flushed_history (next (begun canon) (wished editing))
+abbrev pub opening : Canon → Approach → History
+opening canon approach = flushed_history (next (begun approach.opening canon) (wished approach.editing))
 
 -- the terminal before the first message
-abbrev pub start : Canon → Editing → Jobs → Run
-start canon editing jobs =
+abbrev pub start : Canon → Approach → Jobs → Run
+start canon approach jobs =
     record {
-      history = opening canon editing;
+      history = opening canon approach;
       stream = [];
       puts = [];
       jobs = jobs;

@@ -3,7 +3,7 @@
 ghost use Rattle.std.specs.Prelude.{◌≡◌, ℕ, Bool, false, Some, List, map};
 ghost use Rattle.tn_discipline.specs.Canon.{Canon};
 ghost use Rattle.tn_jobs.specs.{Jobs.{Jobs, state_at}, declared.verdicts.JobState.TheVariants.Foreground};
-ghost use Rattle.tn_server.specs.declared.wishes.Editing.{Editing};
+ghost use Rattle.tn_server.specs.declared.openings.Approach.{Approach};
 ghost use Rattle.tn_cores.specs.declared.faults.Ended.TheVariants.{HangUp, Fault};
 ghost use Rattle.tn_cores.specs.server.{Ending.IsFaultCause, Requests.{AnswersRequests, requests_among}};
 ghost use Rattle.tn_cores.specs.server.{Echoing.{is_echoing, echo_after}, Giving.GivesPrefix};
@@ -18,26 +18,26 @@ use tn_jobs::laws::one_job_changes;
 /// The entries that go to the foreground job are a prefix of the history's entries, in order, each
 /// once, whichever call failed.
 pub fn entries_go_in_order()
-    ensures { (opens : Bool) (canon : Canon) (editing : Editing) (jobs : Jobs)
+    ensures { (opens : Bool) (canon : Canon) (approach : Approach) (jobs : Jobs)
         (marked : List (Message × ServerMark)) (new : Run) →
-        Runs (run_after_opening opens (start canon editing jobs)) marked new →
+        Runs (run_after_opening opens (start canon approach jobs)) marked new →
         GivesPrefix new.puts new.history }
 {}
 
 /// The stream of a run is the first bytes of its pieces, and its entries are those of the stream's
 /// items.
 pub fn pieces_are_heard()
-    ensures { (opens : Bool) (canon : Canon) (editing : Editing) (jobs : Jobs)
+    ensures { (opens : Bool) (canon : Canon) (approach : Approach) (jobs : Jobs)
         (marked : List (Message × ServerMark)) (new : Run) →
-        Runs (run_after_opening opens (start canon editing jobs)) marked new →
-        Hears canon editing (map (λ m. m.0) marked) new }
+        Runs (run_after_opening opens (start canon approach jobs)) marked new →
+        Hears canon approach (map (λ m. m.0) marked) new }
 {}
 
 /// If a run ends by a hang-up, all pieces were read, and all entries were put before an end was.
 pub fn all_goes_before_a_hang_up()
-    ensures { (opens : Bool) (canon : Canon) (editing : Editing) (jobs : Jobs) (id : ℕ)
+    ensures { (opens : Bool) (canon : Canon) (approach : Approach) (jobs : Jobs) (id : ℕ)
         (marked : List (Message × ServerMark)) (new : Run) →
-        Runs (run_after_opening opens (start canon editing jobs)) marked new →
+        Runs (run_after_opening opens (start canon approach jobs)) marked new →
         new.progress.ended ≡ HangUp → state_at jobs id ≡ Some Foreground →
         MayAllCome false (map (λ m. m.0) marked) → HangsUp id (map (λ m. m.0) marked) new }
 {
@@ -48,11 +48,11 @@ pub fn all_goes_before_a_hang_up()
 /// memory ran out; a write that failed; or a call of the end that was refused for its cause, too far
 /// behind only if as many entries waited as there may be.
 pub fn faults_have_causes()
-    ensures { (opens : Bool) (canon : Canon) (editing : Editing) (jobs : Jobs)
+    ensures { (opens : Bool) (canon : Canon) (approach : Approach) (jobs : Jobs)
         (marked : List (Message × ServerMark)) (new : Run) (fault : SessionFault) →
-        Runs (run_after_opening opens (start canon editing jobs)) marked new →
+        Runs (run_after_opening opens (start canon approach jobs)) marked new →
         new.progress.ended ≡ Fault fault →
-        IsFaultCause opens (run_after_opening opens (start canon editing jobs)) marked fault }
+        IsFaultCause opens (run_after_opening opens (start canon approach jobs)) marked fault }
 {}
 
 /// Typed keys are echoed or not as the job in the foreground asked. No other message changes that.
@@ -72,8 +72,8 @@ pub fn welcome_messages_find_room()
 /// The entries that were put for the foreground job, and its request that waits, are no more than
 /// its requests: no put finds an entry that was put before without a request.
 pub fn puts_answer_requests()
-    ensures { (opens : Bool) (canon : Canon) (editing : Editing) (jobs : Jobs)
+    ensures { (opens : Bool) (canon : Canon) (approach : Approach) (jobs : Jobs)
         (marked : List (Message × ServerMark)) (new : Run) →
-        Runs (run_after_opening opens (start canon editing jobs)) marked new →
+        Runs (run_after_opening opens (start canon approach jobs)) marked new →
         AnswersRequests (requests_among marked) new }
 {}

@@ -31,7 +31,7 @@ use std::alloc::Global;
 use tn_discipline::{Entry, Limit, Settings, Sig};
 use tn_jobs::{After, JobId, JobState, Table, Verdict, Why, judge};
 use tn_pty::QUEUE_SYMBOLS;
-use tn_server::{Editing, ServerEnd, ServerFault};
+use tn_server::{Approach, ServerEnd, ServerFault};
 
 /// The most entries that may wait for one more piece to be welcome.
 const MAX_BEFORE_PIECE: usize = 511;
@@ -90,7 +90,7 @@ fn pull_all(end: &mut ServerEnd, out: &mut Vec<u8>) -> Result<(), ServerFault>
 }
 
 impl Term {
-    /// Starts the end, appends the opening messages, and requests that one side edit lines.
+    /// Starts the end, appends its opening messages, and requests that one side edit lines.
     ///
     /// # Errors
     ///
@@ -99,22 +99,22 @@ impl Term {
         alloc: Global,
         settings: Settings,
         limit: Limit,
-        editing: Editing,
+        approach: Approach,
         table: Table,
         out: &mut Vec<u8>,
     ) -> Result<Term, ServerFault>
         requires { out.old.items ≡ [] }
         ensures at { IfOk result (λ term.
-            LeadsTo (run.start (record { settings = settings; limit = limit }) editing table) term) }
+            LeadsTo (run.start (record { settings = settings; limit = limit }) approach table) term) }
         ensures out { OnOk result (out.new.items ≡
-            spells (items_said (run.opening (record { settings = settings; limit = limit }) editing))) }
+            spells (items_said (run.opening (record { settings = settings; limit = limit }) approach))) }
         ensures progress { IfOk result (λ term. IsFalse term.progress.over) }
         ensures fault { IfErr result (λ fault. fault ≡ ServerFault.Memory) }
     {
         let flags = settings.flags;
         let tostop = flags.tostop;
-        let mut end = ServerEnd::start(alloc, settings, limit, out)?;
-        end.wish(editing, out)?;
+        let mut end = ServerEnd::open(approach.opening, alloc, settings, limit, out)?;
+        end.wish(approach.editing, out)?;
         pull_all(&mut end, out)?;
         Ok(Term {
             end,

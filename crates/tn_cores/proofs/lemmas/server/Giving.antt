@@ -10,7 +10,7 @@ use Rattle.tn_jobs.specs.declared.verdicts.JobState.TheVariants as job
 use Rattle.tn_linemode.specs.Modes.{edits}
 use Rattle.tn_nvt.specs.declared.items.Item.{Item}
 use Rattle.tn_server.specs.{Events.{History, next, got, took, wrote, gets, limit}, Lines.{entries, taken_count, waiting, roles, role_at}, Course.in_parts}
-use Rattle.tn_server.specs.{Terms.{settings, mode}, declared.wishes.Editing.Editing}
+use Rattle.tn_server.specs.{Terms.{settings, mode}, declared.openings.Approach.Approach}
 use Rattle.tn_cores.specs.server.{Giving.{entries_put, Gives, GivesPrefix}, Marks.{Turns, Runs, unput, put_or_not, run_after_opening}, Run.opening}
 use Rattle.tn_cores.specs.server.Run.{start, Run, flushed_history, flush, feed, ask, ask_if, answer, end_if, show, move, stop_job, end_job, in_foreground}
 use Rattle.tn_cores.specs.server.Run.{echo_by, echoed, turn_echo, after_said, halt_if, is_end, hang_up, ends_by, Acts, ActsUnless, idle, idle_puts, fail}
@@ -153,8 +153,8 @@ gives_acts c new (Said id text after) a g =
 gives_acts c new Refused a g = gives_as _ new a (gives_end c.progress.asks c.puts (flushed_history c.history) (gives_flush c g))
 gives_acts c new _ a g = gives_as (flush c) new a (gives_flush c g)
 
-pub gives_start : (canon : Canon) (editing : Editing) → Gives [] (opening canon editing)
-gives_start canon editing = record { all = refl; taken = omega arith }
+pub gives_start : (canon : Canon) (approach : Approach) → Gives [] (opening canon approach)
+gives_start canon approach = record { all = refl; taken = omega arith }
 
 -- the entries that were put are a prefix of the history's
 
@@ -282,21 +282,21 @@ turned_in_order c new (m, mark.Refused f put) t i =
     in_order_as (fail (fault.Server f) (put_or_not put m c t.1)) new t.3
     (refused_in_order put (fault.Server f) m c t.1 (more_acts c t.1 m a) (gives_acts c t.1 m a (i.gives t.0)))
 
-started_in_order : (b : Bool) (canon : Canon) (editing : Editing) (jobs : Jobs) → InOrder (run_after_opening b (start canon editing jobs))
-started_in_order true canon editing jobs = let g = gives_start canon editing in record { gives = λ e. g; front = front_of [] (opening canon editing) g }
-started_in_order false canon editing jobs = failed_in_order fault.Write (start canon editing jobs)
-    (front_of [] (opening canon editing) (gives_start canon editing))
+started_in_order : (b : Bool) (canon : Canon) (approach : Approach) (jobs : Jobs) → InOrder (run_after_opening b (start canon approach jobs))
+started_in_order true canon approach jobs = let g = gives_start canon approach in record { gives = λ e. g; front = front_of [] (opening canon approach) g }
+started_in_order false canon approach jobs = failed_in_order fault.Write (start canon approach jobs)
+    (front_of [] (opening canon approach) (gives_start canon approach))
 
-pub puts_are_front : (b : Bool) (canon : Canon) (editing : Editing) (jobs : Jobs) (marked : List (Message × ServerMark)) (new : Run)
-    → Runs (run_after_opening b (start canon editing jobs)) marked new → GivesPrefix new.puts new.history
-puts_are_front b canon editing jobs marked new r = (run_keeps Turns InOrder turned_in_order marked (run_after_opening b (start canon editing jobs)) new r
-    (started_in_order b canon editing jobs)).front
+pub puts_are_front : (b : Bool) (canon : Canon) (approach : Approach) (jobs : Jobs) (marked : List (Message × ServerMark)) (new : Run)
+    → Runs (run_after_opening b (start canon approach jobs)) marked new → GivesPrefix new.puts new.history
+puts_are_front b canon approach jobs marked new r = (run_keeps Turns InOrder turned_in_order marked (run_after_opening b (start canon approach jobs)) new r
+    (started_in_order b canon approach jobs)).front
 
 -- while messages have their effect, what was put and what waits are all
-pub puts_are_given : (b : Bool) (canon : Canon) (editing : Editing) (jobs : Jobs) (marked : List (Message × ServerMark)) (new : Run)
-    → Runs (run_after_opening b (start canon editing jobs)) marked new → new.progress.over ≡ false → Gives new.puts new.history
-puts_are_given b canon editing jobs marked new r = (run_keeps Turns InOrder turned_in_order marked (run_after_opening b (start canon editing jobs)) new r
-    (started_in_order b canon editing jobs)).gives
+pub puts_are_given : (b : Bool) (canon : Canon) (approach : Approach) (jobs : Jobs) (marked : List (Message × ServerMark)) (new : Run)
+    → Runs (run_after_opening b (start canon approach jobs)) marked new → new.progress.over ≡ false → Gives new.puts new.history
+puts_are_given b canon approach jobs marked new r = (run_keeps Turns InOrder turned_in_order marked (run_after_opening b (start canon approach jobs)) new r
+    (started_in_order b canon approach jobs)).gives
 
 -- the entries that were taken, of those that were put
 pub taken_are_front : (taken_count rest puts : List (Option Entry)) (h : History) → taken_count ++ rest ≡ puts → GivesPrefix puts h → GivesPrefix taken_count h

@@ -12,7 +12,7 @@ use Rattle.tn_nvt.proofs.lemmas.Reading.{reads_none, reads_on, one_reading}
 use Rattle.tn_nvt.specs.declared.items.Item.{Item}
 use Rattle.tn_server.proofs.lemmas.Histories.{items-gets, gets-append}
 use Rattle.tn_server.specs.{Course.in_parts, Events.{History, next, got, took, items, gets, limit}, Lines.{entries, roles, role_at, waiting}}
-use Rattle.tn_server.specs.{Terms.{settings, mode}, declared.wishes.Editing.Editing}
+use Rattle.tn_server.specs.{Terms.{settings, mode}, declared.openings.Approach.Approach}
 use Rattle.tn_cores.specs.{Pieces.bytes_in, server.{Hearing.{heard, Hears, entries_by}, Marks.{Turns, Runs, put_or_not, run_after_opening}}}
 use Rattle.tn_cores.specs.server.Run.{Run, Acts, ActsUnless, flushed_history, flush, feed, ask, ask_if, answer, hang_up, ends_by, move, stop_job, end_job}
 use Rattle.tn_cores.specs.server.Run.{in_foreground, echo_by, echoed, turn_echo, after_said, halt_if, is_end, show, fail, opening, start}
@@ -203,23 +203,23 @@ turned_stays first c new m off t h =
     (s.over, s.stream, heard_as first c.history new.history c.stream new.stream s.stream s.history h)
 
 -- a run before its first message
-begun_history : (b : Bool) (canon : Canon) (editing : Editing) (jobs : Jobs) → (run_after_opening b (start canon editing jobs)).history ≡ opening canon editing
-begun_history true canon editing jobs = refl
-begun_history false canon editing jobs = refl
+begun_history : (b : Bool) (canon : Canon) (approach : Approach) (jobs : Jobs) → (run_after_opening b (start canon approach jobs)).history ≡ opening canon approach
+begun_history true canon approach jobs = refl
+begun_history false canon approach jobs = refl
 
-begun_stream : (b : Bool) (canon : Canon) (editing : Editing) (jobs : Jobs) → (run_after_opening b (start canon editing jobs)).stream ≡ []
-begun_stream true canon editing jobs = refl
-begun_stream false canon editing jobs = refl
+begun_stream : (b : Bool) (canon : Canon) (approach : Approach) (jobs : Jobs) → (run_after_opening b (start canon approach jobs)).stream ≡ []
+begun_stream true canon approach jobs = refl
+begun_stream false canon approach jobs = refl
 
-pub hears : (b : Bool) (canon : Canon) (editing : Editing) (jobs : Jobs) (marked : List (Message × ServerMark)) (new : Run)
-    → Runs (run_after_opening b (start canon editing jobs)) marked new → Hears canon editing (map (λ m. m.0) marked) new
-hears b canon editing jobs marked new runs =
-    let o = opening canon editing in
-    let c = run_after_opening b (start canon editing jobs) in
-    let begun = begun_stream b canon editing jobs in
+pub hears : (b : Bool) (canon : Canon) (approach : Approach) (jobs : Jobs) (marked : List (Message × ServerMark)) (new : Run)
+    → Runs (run_after_opening b (start canon approach jobs)) marked new → Hears canon approach (map (λ m. m.0) marked) new
+hears b canon approach jobs marked new runs =
+    let o = opening canon approach in
+    let c = run_after_opening b (start canon approach jobs) in
+    let begun = begun_stream b canon approach jobs in
     let r = run_takes Turns (λ (u : Run). u.progress.over) (λ u. Heard o u.stream u.history) (λ u. u.stream) (λ (m : Message × ServerMark). m.0) bytes_in
     (record { on = turned_hearing o; off = turned_stays o }) marked c new runs
-    (heard_as o o c.history [] c.stream begun (begun_history b canon editing jobs) (record { read = ([], reads_none); lines = lines_self o })) in
+    (heard_as o o c.history [] c.stream begun (begun_history b canon approach jobs) (record { read = ([], reads_none); lines = lines_self o })) in
     record {
       unheard = r.0.rest;
       stream_first = ap (λ (bs : List ℕ). bs ++ heard (map (λ m. m.0) marked)) (sym begun) ∙ r.0.front;
@@ -239,15 +239,15 @@ entries_more h (x ∷ xs) =
     (gain ++ on.0, on.1 ∙ ap (λ (es : List Entry). es ++ on.0) (entries-all (limit h) (roles h) r) ∙ append_assoc (entries h) gain on.0)
 
 -- the entries of the first bytes begin those of all
-pub entries_grow : (canon : Canon) (editing : Editing) (stream rest : List ℕ) (had xs : List Item) → IsRead stream had → IsRead (stream ++ rest) xs
-    → (more : List Entry) × (entries_by canon editing xs ≡ entries_by canon editing had ++ more)
-entries_grow canon editing stream rest had xs r s =
-    let o = opening canon editing in
+pub entries_grow : (canon : Canon) (approach : Approach) (stream rest : List ℕ) (had xs : List Item) → IsRead stream had → IsRead (stream ++ rest) xs
+    → (more : List Entry) × (entries_by canon approach xs ≡ entries_by canon approach had ++ more)
+entries_grow canon approach stream rest had xs r s =
+    let o = opening canon approach in
     let on = reads_on stream rest r.0 s.0 had xs r.1 s.1 in
     let grown = entries_more (gets o had) on.0 in
     (grown.0, ap (λ (ys : List Item). entries (gets o ys)) on.1 ∙ ap entries (gets-append o had on.0) ∙ grown.1)
 
 -- the entries of the first bytes are all of them, if there are no more bytes
-pub entries_same : (canon : Canon) (editing : Editing) (stream : List ℕ) (had xs : List Item) → IsRead stream had → IsRead stream xs
-    → entries_by canon editing xs ≡ entries_by canon editing had
-entries_same canon editing stream had xs r s = ap (entries_by canon editing) (sym (one_reading stream r.0 s.0 had xs r.1 s.1).0)
+pub entries_same : (canon : Canon) (approach : Approach) (stream : List ℕ) (had xs : List Item) → IsRead stream had → IsRead stream xs
+    → entries_by canon approach xs ≡ entries_by canon approach had
+entries_same canon approach stream had xs r s = ap (entries_by canon approach) (sym (one_reading stream r.0 s.0 had xs r.1 s.1).0)
