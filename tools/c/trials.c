@@ -3,7 +3,8 @@
  *   trials worked     openings, answers and entries that were worked out by hand
  *   trials refused    the same session again and again, with each allocation refused in turn
  *   trials server SEED, trials parts SEED      read a client's stream, and print its entries as `tn replay` does: by a
- *                     server end, and by a decoder with a line; it is cut in pieces as SEED has it
+ *                     server end, which owns two options of the stream by chance, and by a decoder with a line; it is cut in
+ *                     pieces as SEED has it
  */
 #include "trial.h"
 
@@ -731,9 +732,12 @@ static void by_server(size_t length)
 {
     tn_server server = TN_HANDLE;
     tn_kind kind = TN_DROPPED;
+    tn_item item = { TN_NO_ITEM, 0, 0, 0 };
     const uint8_t *bytes = NULL;
     size_t at = 0, count = 0;
     SURE(tn_server_start(&server, &standard, 255) == TN_OK);
+    if (rand() % 2) /* options whose items have no part in the keys, as owned ones */
+        SURE(tn_server_own(&server, 24) == TN_OK && tn_server_own(&server, 41) == TN_OK);
     while (at < length) {
         size_t piece = (size_t)(rand() % 800);
         piece = piece < length - at ? piece : length - at;
@@ -751,6 +755,10 @@ static void by_server(size_t length)
             SURE(tn_server_text(&server, buf, sizeof buf, &count) == TN_OK);
             print_entry(kind, buf, count);
         }
+        do {
+            SURE(tn_server_take_own(&server, &item) == TN_OK);
+            SURE(item.kind == TN_NO_ITEM || item.option == 24 || item.option == 41);
+        } while (item.kind != TN_NO_ITEM);
         SURE(tn_server_say(&server, NULL, 0, &count) == TN_OK && tn_server_peek(&server, &bytes, &count) == TN_OK);
         SURE(tn_server_sent(&server, count) == TN_OK);
     }
