@@ -21,9 +21,9 @@
  * the others wait on.
  *
  * Each call but _free, tn_version and tn_code_text returns a code. If it is not TN_OK, nothing was written through the pointers, and the
- * handle's content is as it was, except after the calls of _feed and _say, whose comments say what they leave. Every call but _start,
- * _free and those without a handle returns TN_NOT_STARTED if its handle holds nothing; the comments below do not name it again. The
- * other codes of a call are named at it; if several apply, it returns the first one there.
+ * handle's content is as it was, except after _feed, _feed_some and tn_server_say, whose comments say what they leave. Every call but
+ * _start, _free and those without a handle returns TN_NOT_STARTED if its handle holds nothing; the comments below do not name it again.
+ * The other codes of a call are named at it; if several apply, it returns the first one there.
  */
 #ifndef TN_H
 #define TN_H
@@ -91,7 +91,7 @@ typedef struct tn_client {
 typedef enum tn_code TN_ENUM {
     TN_OK = 0,
     TN_MEMORY = 1,        /* an allocation was refused */
-    TN_FAILED = 2,        /* a feed was refused before: the end or the decoder reads no more */
+    TN_FAILED = 2,        /* a feed failed before: the end or the decoder reads no more */
     TN_NOT_STARTED = 3,   /* nothing is held */
     TN_STARTED = 4,       /* something is held already */
     TN_OTHER_KIND = 5,    /* it holds another of the four: never, unless a pointer was cast */
@@ -300,10 +300,11 @@ tn_code tn_server_start_lines(tn_server *server, const tn_flags *flags, uint16_t
  * at most 511 entries wait: feed no more at once, and take the entries after each.
  *
  * Returns:
- * - TN_FAILED: a feed was refused before, and all is as it was.
+ * - TN_FAILED: a feed failed before, and all is as it was.
  * - TN_ITEMS_WAIT: nothing of the piece was read, and all is as it was.
  * - TN_CLOSED, TN_TOO_FAR_AHEAD, TN_MEMORY: the items before the refused one were done, their replies wait, and the end has failed: read
- *   the replies, and close the connection. If TN_MEMORY comes for an owned option, nothing of the piece reached the end. */
+ *   the replies, and close the connection. If memory was refused to an item of an owned option, the end got nothing of the piece, and its
+ *   calls but _feed go on. */
 tn_code tn_server_feed(tn_server *server, const uint8_t *bytes, size_t length) TN_CALL((1));
 
 /* Takes the first bytes of a piece of the client's stream, and sets *taken to their number: at most 512, and none while more than 511
@@ -417,7 +418,7 @@ tn_code tn_server_char(const tn_server *server, uint8_t function, uint16_t *valu
 /* Sets *state to the state of an option, at our side or at theirs. */
 tn_code tn_server_option(const tn_server *server, bool ours, uint8_t option, tn_option_state *state) TN_CALL((1, 4));
 
-/* Sets *failed to whether a feed was refused. */
+/* Sets *failed to whether a feed failed; one that was refused by TN_ITEMS_WAIT did not. */
 tn_code tn_server_failed(const tn_server *server, bool *failed) TN_CALL((1, 2));
 
 /* ---- A client end, which edits lines if its server asks for that ---- */
@@ -441,10 +442,10 @@ tn_code tn_client_new_line(tn_client *client) TN_CALL((1));
 /* Takes a piece of the server's stream, cut anywhere: replies wait to be read, text waits to be shown.
  *
  * Returns:
- * - TN_FAILED: a feed was refused before, and all is as it was.
+ * - TN_FAILED: a feed failed before, and all is as it was.
  * - TN_ITEMS_WAIT: nothing of the piece was read, and all is as it was.
- * - TN_MEMORY: the items before the refused one were done, and the end has failed. If it comes for an owned option, nothing of the piece
- *   reached the end. */
+ * - TN_MEMORY: the items before the refused one were done, and the end has failed. If memory was refused to an item of an owned option, the
+ *   end got nothing of the piece, and its calls but _feed go on. */
 tn_code tn_client_feed(tn_client *client, const uint8_t *bytes, size_t length) TN_CALL((1));
 
 /* The first call sets *count to the number of bytes that wait to be sent. The second moves the first of them to buf, as many as fit, and

@@ -68,7 +68,7 @@ def floods(server):
 
 
 def owns(server, client):
-    """Options of one's own at both ends: words and subnegotiations wait at the other end, and others are refused as before."""
+    """Options of one's own at both ends: messages and subnegotiations wait at the other end, and other options are refused as before."""
     server.own(201, 70)
     client.own(201)
     assert refusal(server.own, 31) == tn.RESERVED and refusal(client.say_own, 70, 253) == tn.NOT_OWNED

@@ -315,7 +315,7 @@ pub extern "C" fn tn_client_option(
     )
 }
 
-/// Sets `failed` to whether a feed was refused.
+/// Sets `failed` to whether a feed failed.
 #[unsafe(no_mangle)]
 pub extern "C" fn tn_client_failed(alloc: Global, handle: &mut Handle, failed: &mut bool) -> u32
     ensures { CallsClient handle.old.held handle.new.held result (failed.new ≡ failed.old)

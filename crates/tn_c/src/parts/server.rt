@@ -167,7 +167,7 @@ impl HeldServer {
         self.owned.put_sub(option, params, &mut self.pending)
     }
 
-    /// Returns whether a feed was refused: the end has failed, or the decoder of owned options.
+    /// Returns whether a feed failed: the end has failed, or the decoder of owned options.
     pub fn failed(&self) -> bool
         ensures { result ≡ (self.now.end.failed || self.now.owned.failed) }
     {
