@@ -348,7 +348,7 @@ module _ {J : Type 0} {facts : JobActs J} {jobs : SessionJobs J} {settings : Ter
       ap heard s.messages ∙ nets.bytes ∙ ap (λ (l : List Mail). heard (messages_of l)) (s.woven Net) ∙ heard_of_mails s.from_net
       ∙ sym (ap (λ (v : View). came_by v.net) s.net_is)
 
-  pub heard_of_reader : Hears settings.canon settings.editing messages s.run → (result.report.ended ≡ ended.HangUp → HangsUp jobs.first.0 messages s.run)
+  pub heard_of_reader : Hears settings.canon settings.approach messages s.run → (result.report.ended ≡ ended.HangUp → HangsUp jobs.first.0 messages s.run)
       → HearsReader reader.bytes result.report.ended s.run
   heard_of_reader h hung = record {
     left = prepend_known h.unheard s.read.1;
@@ -379,14 +379,14 @@ module _ {J : Type 0} {facts : JobActs J} {jobs : SessionJobs J} {settings : Ter
       ∙ append_assoc (map (λ e. Some e) given_entries) (None ∷ []) s.took_first.0 in
       ap entries_put took_is ∙ put_given given_entries ∙ u.all_put given_entries s.took_first.0 puts
 
-  pub takes_entries : Hears settings.canon settings.editing messages s.run → HearsReader reader.bytes result.report.ended s.run
+  pub takes_entries : Hears settings.canon settings.approach messages s.run → HearsReader reader.bytes result.report.ended s.run
       → GivesPrefix s.taken s.run.history → (result.report.ended ≡ ended.HangUp → entries_put s.taken ≡ entries s.run.history)
       → TakesEntries settings reader.bytes result.report.ended s.taken
   takes_entries h r front all bytes xs known read =
       let had = items s.run.history in
       let k = known_left bytes s.run.stream r.left (subst (λ (g : Option (List ℕ)). Consumes g r.left s.run.stream) known r.consumed) in
       let whole : IsRead (s.run.stream ++ k.0) xs = subst (λ (bs : List ℕ). IsRead bs xs) k.1 read in
-      let grown = entries_grow settings.canon settings.editing s.run.stream k.0 had xs r.read whole in (
+      let grown = entries_grow settings.canon settings.approach s.run.stream k.0 had xs r.read whole in (
         (
           front.0 ++ grown.0,
           sym (append_assoc (entries_put s.taken) front.0 grown.0) ∙ ap (λ (es : List Entry). es ++ grown.0) (front.1 ∙ h.entries_are) ∙ sym grown.1,
@@ -395,7 +395,7 @@ module _ {J : Type 0} {facts : JobActs J} {jobs : SessionJobs J} {settings : Ter
             let none = k.2 (r.all e) in
             let same : IsRead s.run.stream xs = subst (λ (bs : List ℕ). IsRead bs xs)
             (ap (λ (bs : List ℕ). s.run.stream ++ bs) none ∙ append-nil s.run.stream) whole in
-            all e ∙ h.entries_are ∙ sym (entries_same settings.canon settings.editing s.run.stream had xs r.read same),
+            all e ∙ h.entries_are ∙ sym (entries_same settings.canon settings.approach s.run.stream had xs r.read same),
       )
 
   -- a message that reading failed is Net's, and it had its cause

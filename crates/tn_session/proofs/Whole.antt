@@ -5,7 +5,7 @@ use Rattle.std.specs.{Io.KnownBytes.Appends, List.FoldsTo}
 use Rattle.tn_discipline.specs.{Canon.Canon, declared.reads.Entry.Entry}
 use Rattle.tn_jobs.specs.{Jobs.Jobs, declared.{held_jobs.JobId.JobId, reactions.Reaction.Reaction}}
 use Rattle.tn_nvt.specs.Spelling.{spells}
-use Rattle.tn_server.specs.{Replies.items_said, declared.wishes.Editing.Editing}
+use Rattle.tn_server.specs.{Replies.items_said, declared.openings.Approach.Approach}
 use Rattle.tn_session.proofs.{Going.{false_true, from_to}, Lefts.none_over, Mailbox.all_woven, Sent.{NoLeft, Sent, no_left-append, sent_by, reader_sent}}
 use Rattle.tn_session.proofs.{Stopped.{was_left, stopped_told}, lemmas.{Noting.{IsUpTo, same_steps}, Sessions.server_stepped, workers.Turning.is_close}}
 use Rattle.tn_session.specs.workers.{Acts.JobActs, Mailbox.{Interleaves, from, four, sender, union, nobody, everyone, with_handled, mail, Total}}
@@ -161,13 +161,13 @@ noted_all begin last steps marked handled opened front noted goes of_steps messa
     mapped f [] = refl
     mapped f (s ∷ ss) = ap (λ (l : List Message). f s.0 ∷ l) (mapped f ss)
 
-no_puts : (b : Bool) (canon : Canon) (editing : Editing) (jobs : Jobs) → (run_after_opening b (start canon editing jobs)).puts ≡ []
-no_puts true canon editing jobs = refl
-no_puts false canon editing jobs = refl
+no_puts : (b : Bool) (canon : Canon) (approach : Approach) (jobs : Jobs) → (run_after_opening b (start canon approach jobs)).puts ≡ []
+no_puts true canon approach jobs = refl
+no_puts false canon approach jobs = refl
 
-same_history : (b : Bool) (canon : Canon) (editing : Editing) (jobs : Jobs) → (run_after_opening b (start canon editing jobs)).history ≡ opening canon editing
-same_history true canon editing jobs = refl
-same_history false canon editing jobs = refl
+same_history : (b : Bool) (canon : Canon) (approach : Approach) (jobs : Jobs) → (run_after_opening b (start canon approach jobs)).history ≡ opening canon approach
+same_history true canon approach jobs = refl
+same_history false canon approach jobs = refl
 
 -- all of a session that ran
 pub scheduled : {J : Type 0} (facts : JobActs J) (jobs : SessionJobs J) (stopped : Bool) (words : List ℕ) (reader : KnownReader) (x y z : KnownWriter)
@@ -181,25 +181,25 @@ pub scheduled : {J : Type 0} (facts : JobActs J) (jobs : SessionJobs J) (stopped
 scheduled {J} facts jobs stopped words reader x y z noted₀ term mid last pass₀ hand₀ ended result ep eh o acted sn talked stepped never settled er settings
     table at ew =
     let canon = settings.canon in
-    let editing = settings.editing in
-    let begin = run_after_opening o.written (start canon editing table) in
-    let g = acted.goes.leads begin (o.leads (start canon editing table) at) in
+    let approach = settings.approach in
+    let begin = run_after_opening o.written (start canon approach table) in
+    let g = acted.goes.leads begin (o.leads (start canon approach table) at) in
     let ns = reader_sent Net (Some jobs.first) false reader ended.net sn in
     let ds = desk_sent jobs.first (IsJob jobs.job) facts ended.desk ended.took talked in
     let bs = back_sent (Holds jobs.queue) facts (queue_of jobs.tostop jobs.queue) stopped ended.back stepped in
-    let puts : g.0.puts ≡ acted.puts = g.3 ∙ ap (λ (ps : List (Option Entry)). ps ++ acted.puts) (no_puts o.written canon editing table) in
+    let puts : g.0.puts ≡ acted.puts = g.3 ∙ ap (λ (ps : List (Option Entry)). ps ++ acted.puts) (no_puts o.written canon approach table) in
     let view : ended.term ≡ handler acted.handled = acted.view ∙ ap (λ (v : View). with_handled v acted.handled) ep in
     let all = settled acted.handled ns.mails ds.sent.mails bs.mails acted.puts ds.taken view ns.is ds.sent.is bs.is (acted.hand [] eh) ds.took in
     let none = none_over acted.handled all.6.0 ns.mails ds.sent.mails bs.mails [] all.6.1 ns.ends ds.sent.ends bs.ends tt
     (omega (arith, ns.one, ds.sent.one, bs.one, acted.lefts)) in
     let sends : spells (items_said g.0.history) ≡ words ++ (acted.goes.bytes ++ g.4) =
     g.5 ∙ ap (λ (bytes : List ℕ). bytes ++ (acted.goes.bytes ++ g.4))
-    (ap (λ h. spells (items_said h)) (same_history o.written canon editing table) ∙ sym ew) in
+    (ap (λ h. spells (items_said h)) (same_history o.written canon approach table) ∙ sym ew) in
     let w = wrote_all o.written words o.wrote.front o.wrote.back acted.goes.bytes g.4 (spells (items_said g.0.history)) x.bytes y.bytes z.bytes
     (all_whole acted.goes.marked) o.wrote.whole o.wrote.all o.wrote.wrote acted.goes.wrote (λ e. acted.goes.idle (o.over e)) sends g.6 in
-    let at_first : says begin ≡ words = ap (λ h. spells (items_said h)) (same_history o.written canon editing table) ∙ sym ew in
+    let at_first : says begin ≡ words = ap (λ h. spells (items_said h)) (same_history o.written canon approach table) ∙ sym ew in
     let up = opened_up o.written begin words o.wrote.front o.wrote.back x.bytes y.bytes at_first o.wrote.whole o.wrote.all
-    (λ e. sym (ap (λ (p : ServerProgress). p.over) (o.leads (start canon editing table) at).progress) ∙ o.over e) in
+    (λ e. sym (ap (λ (p : ServerProgress). p.over) (o.leads (start canon approach table) at).progress) ∙ o.over e) in
     let transcript = noted_all begin g.0 acted.goes.steps acted.goes.marked acted.handled noted₀ o.wrote.front result.noted g.7 acted.goes.of_steps
     acted.goes.whole up (ap notes o.wrote.noted) acted.noted in
     let all_bytes : acted.goes.bytes ≡ total acted.goes.steps = acted.goes.all_bytes in
@@ -207,7 +207,7 @@ scheduled {J} facts jobs stopped words reader x y z noted₀ term mid last pass�
     let B : View → Type 0 = λ v. AreSteps {J = J} (Holds jobs.queue) facts (queue_of jobs.tostop jobs.queue) stopped v in
     let woven : Interleaves acted.handled (four ns.mails ds.sent.mails bs.mails []) =
     λ r. ap (from r) (sym (append-nil acted.handled) ∙ ap (λ (l : List Mail). acted.handled ++ l) (sym none)) ∙ all.6.1 r in
-    let stands = acted.stands begin (o.leads (start canon editing table) at) in
+    let stands = acted.stands begin (o.leads (start canon approach table) at) in
     let left = stands.gone (was_left Back acted.handled bs.mails (woven Back) bs.one) in
     let T : Bool → StopHand → Type 0 = λ b v. IsTold b v in (
       record {

@@ -3,7 +3,7 @@ use Rattle.std.specs.Prelude.{ℕ, Bool, Option, List}
 use Rattle.crossbeam_channel.specs.Claims.{view}
 use Rattle.tn_discipline.specs.{Canon.Canon, declared.reads.Entry.Entry}
 use Rattle.tn_jobs.specs.declared.{held_jobs.JobId.JobId, reactions.Reaction.Reaction}
-use Rattle.tn_server.specs.declared.wishes.Editing.{Editing}
+use Rattle.tn_server.specs.declared.openings.Approach.{Approach}
 use Rattle.tn_session.specs.{workers.Acts.{JobActs, job_acts}, declared.workers.back.Runner.Runner}
 use Rattle.tn_session.specs.{declared.workers.channels.View.View, workers.EntryChannel.EntryHand}
 use Rattle.tn_session.specs.{workers.Stops.StopHand, Notes.{Noted, noted_of}, declared.parties.Ports.Ports}
@@ -31,7 +31,7 @@ pub record SessionJobs (J : Type 0) : Type 0 where
 -- the terminal's settings with its limit, and the side that edits
 pub record TermSettings : Type 0 where
   pub canon : Canon
-  pub editing : Editing
+  pub approach : Approach
 
 -- the passes of a session: what each thread sent, what the terminal handled and put, what was taken, and
 -- whether the thread of the background jobs was asked to stop

@@ -79,7 +79,7 @@ pub record Schedule {J : Type 0} (acts : JobActs J) (jobs : SessionJobs J) (sett
   pub marked : List (Message × ServerMark)
   pub messages : map (λ m. m.0) marked ≡ messages_of handled
   pub run : Run
-  pub runs : Runs (run_after_opening wrote_opening (start settings.canon settings.editing table)) marked run
+  pub runs : Runs (run_after_opening wrote_opening (start settings.canon settings.approach table)) marked run
   pub written : List ℕ
   pub unwritten : List ℕ
   pub appended : Appends writer.before.bytes writer.after.bytes written
@@ -97,7 +97,7 @@ pub record Schedule {J : Type 0} (acts : JobActs J) (jobs : SessionJobs J) (sett
   -- when Back left, it had been asked to stop if by then nothing had any effect any more, or nothing more
   -- came from the network, and else not; only if asked it stopped
   pub back_left : LeavesAt Back messages_of
-      (Runs (run_after_opening wrote_opening (start settings.canon settings.editing table))) handled marked
+      (Runs (run_after_opening wrote_opening (start settings.canon settings.approach table))) handled marked
   pub told : IsTold (term_stops back_left.by_then.progress) result.views.told
   pub stopped_for : IsTrue stopped → IsTrue (term_stops back_left.by_then.progress)
   -- six: the report
@@ -136,10 +136,10 @@ pub record IsNoted (first : Run) (marked : List (Message × ServerMark)) (last :
 abbrev pub IsRun : {J : Type 0} → JobActs J → SessionJobs J → Term → List ℕ → KnownReader → KnownWriting
     → SessionResult → Type 0
 IsRun acts jobs term words reader writer result =
-    (settings : TermSettings) (table : Jobs) → LeadsTo (start settings.canon settings.editing table) term
-    → words ≡ spells (items_said (opening settings.canon settings.editing))
+    (settings : TermSettings) (table : Jobs) → LeadsTo (start settings.canon settings.approach table) term
+    → words ≡ spells (items_said (opening settings.canon settings.approach))
     → (s : Schedule acts jobs settings table reader writer result) × (transcript : List Exchange)
-    × IsNoted (run_after_opening s.wrote_opening (start settings.canon settings.editing table)) s.marked s.run
+    × IsNoted (run_after_opening s.wrote_opening (start settings.canon settings.approach table)) s.marked s.run
     s.written
     s.handled result.noted transcript
 
@@ -150,8 +150,8 @@ pub record IsBegun {J : Type 0} (fresh : J → Type 0) (settings : TermSettings)
   pub queue : IsQueue fresh b.posts.queue.items
   pub tostop : b.posts.tostop ≡ settings.canon.settings.flags.tostop
   pub job : fresh b.posts.job
-  pub at : LeadsTo (start settings.canon settings.editing jobs) b.term
-  pub words : b.output.out.items ≡ spells (items_said (opening settings.canon settings.editing))
+  pub at : LeadsTo (start settings.canon settings.approach jobs) b.term
+  pub words : b.output.out.items ≡ spells (items_said (opening settings.canon settings.approach))
   pub noted : noted_of b.output.transcript ≡ no_notes
 
 -- from after the opening messages on, whatever these were
@@ -175,8 +175,8 @@ pub record HearsReader (given : Option (List ℕ)) (ended : Ended) (c : Run) : T
 abbrev pub TakesEntries : TermSettings → Option (List ℕ) → Ended → List (Option Entry) → Type 0
 TakesEntries settings given ended taken =
     (bytes : List ℕ) (xs : List Item) → given ≡ Some bytes → IsRead bytes xs
-    → IsPrefixOf (entries_put taken) (entries_by settings.canon settings.editing xs)
-    × (ended ≡ HangUp → entries_put taken ≡ entries_by settings.canon settings.editing xs)
+    → IsPrefixOf (entries_put taken) (entries_by settings.canon settings.approach xs)
+    × (ended ≡ HangUp → entries_put taken ≡ entries_by settings.canon settings.approach xs)
 
 -- All points together, for the jobs that were made. `to_make` is the number of jobs that the maker reports to
 -- come.
@@ -212,13 +212,13 @@ pub record RunningSession {J : Type 0} (facts : JobFacts J) (to_make : Option �
   pub was_written : all_wrote transcript ≡ schedule.written
   -- a step for the opening messages, and one for each message, as the terminal noted it when it acted; all
   -- was read if a hang-up ended the session
-  pub noted : IsNoted (run_after_opening schedule.wrote_opening (start settings.canon settings.editing jobs))
+  pub noted : IsNoted (run_after_opening schedule.wrote_opening (start settings.canon settings.approach jobs))
       schedule.marked schedule.run schedule.written schedule.handled result.noted transcript
   pub heard_whole : result.report.ended ≡ HangUp → schedule.run.stream ≡ all_read transcript
   -- six: a fault is reported only if its cause was there
   pub caused : (f : SessionFault) → result.report.ended ≡ Fault f
       → IsFaultCause schedule.wrote_opening
-      (run_after_opening schedule.wrote_opening (start settings.canon settings.editing jobs))
+      (run_after_opening schedule.wrote_opening (start settings.canon settings.approach jobs))
       schedule.marked f
   -- the fault of reading only if a read failed, or after as many as are made
   pub read_failed : result.report.ended ≡ Fault fault.Read

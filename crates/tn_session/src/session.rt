@@ -39,7 +39,7 @@ use tn_cores::streams::{Finish, Source};
 use tn_cores::{Gate, Place, SessionFault};
 use tn_discipline::{Entry, Limit, Settings};
 use tn_jobs::{Job, JobId};
-use tn_server::Editing;
+use tn_server::Approach;
 
 /// The most messages that the mailbox holds.
 pub(crate) const MAILS: usize = 64;
@@ -139,13 +139,13 @@ fn begin<M: Maker + Drop>(
     alloc: Global,
     settings: Settings,
     limit: Limit,
-    editing: Editing,
+    approach: Approach,
     mut maker: M,
 ) -> Result<Begun<M::Job>, SessionFault>
     ensures fault { IfErr result (IsMakerFault (M.left maker)) }
     ensures begun { IfOk result (λ begun.
         IsBegun M.Job.fresh
-        (record { canon = record { settings = settings; limit = limit }; editing = editing }) begun) }
+        (record { canon = record { settings = settings; limit = limit }; approach = approach }) begun) }
     ensures all { IfOk result (λ begun. AreAll (M.left maker) (ids_of begun.posts.queue.items)) }
     ensures in_order { IfOk result (λ begun.
         GivesJobs M.gives maker (begun.posts.job ∷ jobs_of begun.posts.queue.items)) }
@@ -158,7 +158,7 @@ fn begin<M: Maker + Drop>(
         queue,
     } = make_jobs(alloc, &mut maker)?;
     let mut output = Output::new(alloc);
-    let Ok(term) = Term::start(alloc, settings, limit, editing, table, &mut output.out) else {
+    let Ok(term) = Term::start(alloc, settings, limit, approach, table, &mut output.out) else {
         return Err(SessionFault::Memory);
     };
     let posts = Posts {
@@ -521,7 +521,7 @@ pub fn serve_session<R, Rd, W, M, G>(
     writer: &mut W,
     settings: Settings,
     limit: Limit,
-    editing: Editing,
+    approach: Approach,
     maker: M,
     gate: Arc<G, Global>,
 ) -> Result<(Report, Ports), SessionFault>
@@ -537,7 +537,7 @@ where
     ensures ran { IfOk result (λ r.
         RunningSession (job_facts (begins M.Job.fresh M.gives maker) M.Job.reacts M.Job.steps M.Job.refuses)
         (M.left maker)
-        (record { canon = record { settings = settings; limit = limit }; editing = editing })
+        (record { canon = record { settings = settings; limit = limit }; approach = approach })
         (known_reader Rd.remaining Rd.foretold Rd.sizes Rd.words reader)
         (known_writing W.contents W.told writer.old writer.new) (session_result r.0 r.1)) }
     ensures in_reach { IfOk result (λ r. r.0.ended ≢ too_far_ahead) }
@@ -546,7 +546,7 @@ where
     pieces_are_heard();
     all_goes_before_a_hang_up();
     faults_have_causes();
-    let begun = begin(alloc, settings, limit, editing, maker)?;
+    let begun = begin(alloc, settings, limit, approach, maker)?;
     let mut term = begun.term;
     run_begun(
         rt,

@@ -16,22 +16,22 @@ returns-clause-ran g c = IfOk-weaker c.run_begun.result _ _ (λ r ran.
     let is = c.in_ok-begun.ensures.begun in
     let jobs = is.jobs in
     let posts = begun.posts in
-    let whole = ran (record { canon = canon; editing = c.args.editing }) jobs is.at is.words in
+    let whole = ran (record { canon = canon; approach = c.args.approach }) jobs is.at is.words in
     let s = whole.0 in
     let noted = whole.2 in
     let report = r.0 in
     let front = taken_are_front s.taken s.took_first.0 s.run.puts s.run.history s.took_first.1
-    (puts_are_front s.wrote_opening canon c.args.editing jobs s.marked s.run s.runs) in
-    let hears = c.pieces_are_heard.ensures s.wrote_opening canon c.args.editing jobs s.marked s.run s.runs in
-    let hung = λ (e : report.ended ≡ HangUp). c.all_goes_before_a_hang_up.ensures s.wrote_opening canon c.args.editing jobs posts.first.0 s.marked s.run s.runs
+    (puts_are_front s.wrote_opening canon c.args.approach jobs s.marked s.run s.runs) in
+    let hears = c.pieces_are_heard.ensures s.wrote_opening canon c.args.approach jobs s.marked s.run s.runs in
+    let hung = λ (e : report.ended ≡ HangUp). c.all_goes_before_a_hang_up.ensures s.wrote_opening canon c.args.approach jobs posts.first.0 s.marked s.run s.runs
     (sym (ap (λ (r : Report). r.ended) s.report_is) ∙ e) is.numbered.foreground (may_come s) in
     let heard = heard_of_reader s hears hung in
     let all = λ (e : report.ended ≡ HangUp). took_all s (hung e) in
-    let begin = run_after_opening s.wrote_opening (start canon c.args.editing jobs) in
+    let begin = run_after_opening s.wrote_opening (start canon c.args.approach jobs) in
     let said = server_said begin s.marked s.run s.written whole.1 noted.transcribed in
     let reads = server_reads begin s.marked s.run s.written said in
     let caused = λ (f : SessionFault) (e : report.ended ≡ Fault f).
-    c.faults_have_causes.ensures s.wrote_opening canon c.args.editing jobs s.marked s.run f s.runs (sym (ap (λ (r : Report). r.ended) s.report_is) ∙ e) in
+    c.faults_have_causes.ensures s.wrote_opening canon c.args.approach jobs s.marked s.run f s.runs (sym (ap (λ (r : Report). r.ended) s.report_is) ∙ e) in
     record {
       jobs = jobs;
       first = posts.first;
