@@ -13,12 +13,13 @@ pub(crate) struct Publisher {
 }
 
 impl Publisher {
-    /// Notes it at this connection.
+    /// Notes it at this connection, whose session flushes its screen.
     pub(crate) fn new(
         alloc: Global,
         link: &Arc<Link, Global>,
     ) -> Result<Arc<Publisher, Global>, AllocError> {
         let link = Arc::try_clone(link)?;
+        link.note_flushing();
         Ok(Arc::new(alloc, Publisher { link })?)
     }
 }

@@ -59,6 +59,8 @@ pub struct Link {
     has_edited_half: AtomicBool,
     /// The bytes that the session shows next are an echo of keys.
     is_echoing: AtomicBool,
+    /// The screen is flushed once nothing more waits to be shown.
+    is_flushed: AtomicBool,
     /// Keys that were read wait to be taken.
     has_keys: AtomicBool,
     /// The half-typed line as it is shown, if there is a terminal to show it at.
@@ -95,6 +97,7 @@ impl Link {
             has_half: AtomicBool::new(false),
             has_edited_half: AtomicBool::new(false),
             is_echoing: AtomicBool::new(false),
+            is_flushed: AtomicBool::new(false),
             has_keys: AtomicBool::new(false),
             half: Mutex::new(None),
             came: AtomicUsize::new(0),
@@ -462,6 +465,15 @@ impl Link {
     /// Notes whether what the session shows next is an echo of keys.
     pub fn note_echoing(&self, is_echoing: bool) {
         self.is_echoing.store(is_echoing, Ordering::SeqCst);
+    }
+
+    /// Notes that the screen is flushed from now on once nothing more waits to be shown.
+    pub fn note_flushing(&self) {
+        self.is_flushed.store(true, Ordering::SeqCst);
+    }
+
+    pub(crate) fn flushes(&self) -> bool {
+        self.is_flushed.load(Ordering::SeqCst)
     }
 
     pub(crate) fn has_linemode(&self) -> bool {

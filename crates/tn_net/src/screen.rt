@@ -20,7 +20,7 @@ const MOST_HELD: usize = 65_536;
 /// A screen. Once it takes no more, the connection is of no use, and is ended: else the session would wait
 /// for the other end to close. What it gets, the log of the connection gets.
 ///
-/// Bytes of a session are held until they are flushed, at most 65,536: a session flushes them before it waits
+/// Bytes of a session of Telnet are held until they are flushed, at most 65,536: it flushes them before it waits
 /// for more.
 #[derive(Drop)]
 pub struct Screen<H, S> {
@@ -70,12 +70,15 @@ impl<H: Clock + Wait, S: Write> Write for Screen<H, S> {
 }
 
 impl<H: Clock + Wait, S: Write> Screen<H, S> {
-    // Holds these bytes, and first shows what is held if that would be too much. Without memory
-    // they are shown at once.
+    // Holds these bytes, and first shows what is held if that would be too much. They are shown at
+    // once if nobody flushes the screen, or there is no memory.
     fn hold(&mut self, buf: &[u8]) -> io::Result<usize>
         ensures bound { WritesAtMost result buf.now }
         ensures session { self.new.is_session ≡ self.old.is_session }
     {
+        if !self.link.flushes() {
+            return self.show(buf);
+        }
         if buf.len() > MOST_HELD.saturating_sub(self.held.len()) {
             self.show_held()?;
         }
