@@ -517,6 +517,7 @@ impl Pair {
     }
 
     // Applies a key or a command of this role, and returns its echo, which is not shown yet.
+    #[inline(always)]
     fn enter(&mut self, role: Role) -> Result<[Option<Symbol>; 3], PtyFault>
         ensures echo { IfOk result
             (λ shown. shown ≡ echo_at self.old.settings.flags role (effect_of self.old.line role)) }
@@ -586,6 +587,7 @@ impl Pair {
 
 // Applies a key of this role to the line and to the entries, and returns its echo. If there is no memory
 // for the entry that it makes, nothing has changed.
+#[inline(always)]
 fn play(
     line: &mut Line,
     entries: &mut HeapCircularBuffer<Entry>,
