@@ -565,7 +565,7 @@ pub fn connect<H: Host + Network, K: Read + Drop + Send + 'static, S: Write, E: 
     note_log(causes, &link);
     let is_left = link.is_left();
     // A screen that takes no more has ended the connection, and sending fails then.
-    let ended = result_of(talked, is_left || link.is_dark());
+    let ended = result_of(talked, is_left || link.is_dark(), link.misses_text());
     news.close(host, is_left, ended.is_ok());
     ended
 }
@@ -581,6 +581,8 @@ fn note_talked(causes: &mut Vec<u8>, talked: &Talked, link: &Link) {
     }
     if let Some(fault) = fault {
         note_fault(causes, fault, link);
+    } else if link.misses_text() {
+        note_fault(causes, SessionFault::Write, link);
     }
     if let Err(error) = &talked.sent {
         let _ = writeln!(causes, "tn: sending failed: {}", error);
@@ -598,8 +600,8 @@ fn note_break(causes: &mut Vec<u8>, unsent: usize) {
 }
 
 // Returns the result of a session that is over. If its sending failed, that is a fault, unless its
-// user has left.
-fn result_of(talked: Talked, is_left: bool) -> Result<Connected, ConnectFault>
+// user has left; and if text of it could not be shown.
+fn result_of(talked: Talked, is_left: bool, misses_text: bool) -> Result<Connected, ConnectFault>
     ensures ran { IfOk result (λ r. (talked.ended ≡ Ok (r.report, r.ports)) × (r.queue ≡ talked.queue)) }
     ensures log { IfOk result (λ r. (r.log ≡ talked.log) × (IsTrue r.all_sent → talked.sent ≡ Ok Whole)) }
     ensures whole { IfOk result (λ r. EndsWhole r.report.ended) }
@@ -616,6 +618,9 @@ fn result_of(talked: Talked, is_left: bool) -> Result<Connected, ConnectFault>
         ..
     } = talked;
     let (report, ports) = if_whole(ended)?;
+    if misses_text {
+        return Err(ConnectFault::Session);
+    }
     if sent.is_err() && !is_left {
         return Err(ConnectFault::Session);
     }

@@ -61,6 +61,8 @@ pub struct Link {
     is_echoing: AtomicBool,
     /// The screen is flushed once nothing more waits to be shown.
     is_flushed: AtomicBool,
+    /// Text that the screen held was not shown.
+    is_missing: AtomicBool,
     /// Keys that were read wait to be taken.
     has_keys: AtomicBool,
     /// The half-typed line as it is shown, if there is a terminal to show it at.
@@ -98,6 +100,7 @@ impl Link {
             has_edited_half: AtomicBool::new(false),
             is_echoing: AtomicBool::new(false),
             is_flushed: AtomicBool::new(false),
+            is_missing: AtomicBool::new(false),
             has_keys: AtomicBool::new(false),
             half: Mutex::new(None),
             came: AtomicUsize::new(0),
@@ -474,6 +477,16 @@ impl Link {
 
     pub(crate) fn flushes(&self) -> bool {
         self.is_flushed.load(Ordering::SeqCst)
+    }
+
+    /// Notes that text which the screen held could not be shown.
+    pub(crate) fn note_missing(&self) {
+        self.is_missing.store(true, Ordering::SeqCst);
+    }
+
+    /// Returns whether text that the screen held could not be shown.
+    pub fn misses_text(&self) -> bool {
+        self.is_missing.load(Ordering::SeqCst)
     }
 
     pub(crate) fn has_linemode(&self) -> bool {

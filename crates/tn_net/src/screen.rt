@@ -89,26 +89,40 @@ impl<H: Clock + Wait, S: Write> Screen<H, S> {
         self.show(buf)
     }
 
-    // Shows what is held. If a write fails, the rest is dropped: the connection is ended.
+    // Shows what is held. If a write fails, the rest is dropped: the connection is ended. Text that
+    // a reader who has left does not get is not missed.
     fn show_held(&mut self) -> io::Result<()>
         ensures session { self.new.is_session ≡ self.old.is_session }
     {
         let mut held = mem::replace(&mut self.held, Vec::new(self.alloc));
+        let shown = self.show_all(&held);
+        if let Err(error) = &shown {
+            if error.kind() != ErrorKind::BrokenPipe {
+                self.link.note_missing();
+            }
+        }
+        held.clear();
+        self.held = held;
+        shown
+    }
+
+    // Shows these bytes.
+    fn show_all(&mut self, bytes: &[u8]) -> io::Result<()>
+        ensures session { self.new.is_session ≡ self.old.is_session }
+    {
         let mut at = 0;
         for _write in 0..u64::MAX {
-            if at >= held.len() {
-                break;
+            if at >= bytes.len() {
+                return Ok(());
             }
-            match self.show(&held[at..]) {
+            match self.show(&bytes[at..]) {
                 Ok(0) => return Err(io::Error::from(ErrorKind::WriteZero)),
                 Ok(count) => at += count,
                 Err(error) if is_interrupted(&error) => continue,
                 Err(error) => return Err(error),
             }
         }
-        held.clear();
-        self.held = held;
-        Ok(())
+        Err(io::Error::from(ErrorKind::WriteZero))
     }
 
     // Shows the first of these bytes.
