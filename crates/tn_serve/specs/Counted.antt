@@ -5,12 +5,12 @@ use Rattle.tn_jobs.specs.declared.reactions.Reaction.{Reaction}
 use Rattle.tn_serve.specs.{Ends.{IsWhole, finished_as, not_started}, Servers.IsPromised}
 use Rattle.tn_serve.specs.declared.{conversed.Ran.Ran, finished.Finished.Finished}
 use Rattle.tn_serve.specs.declared.settings.SessionOptions.{SessionOptions}
-use Rattle.tn_server.specs.declared.wishes.Editing.TheVariants.{Remote}
+use Rattle.tn_server.specs.declared.{openings.Opening.TheVariants.Keys, wishes.Editing.TheVariants.Remote}
 use Rattle.tn_session.specs.{Facts.{JobFacts, job_facts}, Makers.begins}
 
 -- the options for which no caller asked
 abbrev pub no_options : SessionOptions
-no_options = record { line_limit = standard_limit; editing = Remote; idle = 0; longest = 0 }
+no_options = record { line_limit = standard_limit; opening = Keys; editing = Remote; idle = 0; longest = 0 }
 
 -- the known facts of the jobs of each maker of such jobs
 abbrev pub facts_of : {M J : Type 0} → (J → Type 0) → (M → J → M → Type 0)

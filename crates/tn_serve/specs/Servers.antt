@@ -17,7 +17,7 @@ terminal_of options =
         settings = record { flags = standard_flags; chars = standard_characters };
         limit = options.line_limit;
       };
-      editing = options.editing;
+      approach = record { opening = options.opening; editing = options.editing };
     }
 
 -- nothing is known of its connection before, except that it sends no size, and what its last words may be

@@ -20,6 +20,7 @@ use std::thread::{Promise, PromisedHandle};
 use tn_cores::streams::Source;
 use tn_discipline::Settings;
 use tn_net::{Attended, Connection, Host, Logged, Standing, WriteLog};
+use tn_server::Approach;
 use tn_session::{Maker, Ports, Report, SessionFault, serve_session};
 
 /// A session that is to run over a connection that was accepted.
@@ -250,9 +251,13 @@ where
         return Err(SessionFault::Memory);
     };
     let settings = Settings::standard();
-    let (limit, editing) = (options.line_limit, options.editing);
+    let approach = Approach {
+        opening: options.opening,
+        editing: options.editing,
+    };
+    let limit = options.line_limit;
     serve_session(
-        rt, alloc, reader, writer, settings, limit, editing, jobs, gate,
+        rt, alloc, reader, writer, settings, limit, approach, jobs, gate,
     )
 }
 

@@ -4,13 +4,15 @@ ghost use Rattle.std.specs.Prelude.{◌≡◌, IsFalse};
 ghost use Rattle.tn_discipline.specs.Limits.{standard_limit};
 
 use tn_discipline::Limit;
-use tn_server::Editing;
+use tn_server::{Editing, Opening};
 
 /// The options that all sessions of a server share.
 #[derive(Clone, Copy, PartialEq, Eq)]
 pub struct SessionOptions {
     /// The most bytes that a line has, from 255 to 4,095.
     pub line_limit: Limit,
+    /// What is asked of a client without LINEMODE: keys, or lines that it edits itself.
+    pub opening: Opening,
     /// The side at which the client is asked to edit.
     pub editing: Editing,
     /// The number of seconds after which a session ends as by a hang-up, if the client sends
@@ -21,16 +23,18 @@ pub struct SessionOptions {
 }
 
 impl SessionOptions {
-    /// Makes the standard options: lines of the standard limit, which the server edits, and no
-    /// limit of time.
+    /// Makes the standard options: lines of the standard limit, which the server edits, keys of a
+    /// client without LINEMODE, and no limit of time.
     pub fn standard() -> SessionOptions
         ensures line_limit { result.line_limit ≡ standard_limit }
+        ensures opening { result.opening ≡ Opening.Keys }
         ensures editing { result.editing ≡ Editing.Remote }
         ensures idle { result.idle ≡ 0 }
         ensures longest { result.longest ≡ 0 }
     {
         SessionOptions {
             line_limit: Limit::standard(),
+            opening: Opening::Keys,
             editing: Editing::Remote,
             idle: 0,
             longest: 0,
@@ -77,6 +81,7 @@ impl Serving {
         ensures drain { result.drain ≡ 5 }
         ensures proxied { IsFalse result.is_proxied }
         ensures line_limit { result.options.line_limit ≡ standard_limit }
+        ensures opening { result.options.opening ≡ Opening.Keys }
         ensures editing { result.options.editing ≡ Editing.Remote }
         ensures idle { result.options.idle ≡ 0 }
         ensures longest { result.options.longest ≡ 0 }

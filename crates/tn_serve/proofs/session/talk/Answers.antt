@@ -16,7 +16,7 @@ standard_is s flags chars =
 module _ {J : Type 0} (facts : JobFacts J) (to_make : Option ℕ) (options : SessionOptions) (result : SessionResult) where
   abbrev Ran : Settings → List ℕ → List ℕ → Type 0
   Ran settings before after =
-      RunningSession facts to_make (record { canon = record { settings = settings; limit = options.line_limit }; editing = options.editing })
+      RunningSession facts to_make (record { canon = record { settings = settings; limit = options.line_limit }; approach = record { opening = options.opening; editing = options.editing } })
       attended
       (record { before = record { bytes = Some before; calls = None }; after = record { bytes = Some after; calls = None } }) result
 
