@@ -27,7 +27,7 @@ is_some e = cc
 module _ {J : Type 0} (facts : JobFacts J) (headline : Headline facts) (p : Programs facts) where
   abbrev served : Served facts (terminal_of p.options).canon
   served = record {
-    editing = p.options.editing;
+    approach = record { opening = p.options.opening; editing = p.options.editing };
     to_make = p.to_make;
     reader = attended;
     writer = wrote p.conversed.log;

@@ -20,6 +20,7 @@ use Rattle.tn_theorems.specs.sessions.Transcripts.{Step, served, told, server_st
 use Rattle.tn_cores.specs.declared.faults.Ended.TheVariants as ended
 use Rattle.tn_nvt.specs.{Stream.{spelled, IsPartial}, declared.items.Item.{Item, TheVariants.Byte}, Prefixes.IsPrefixOf}
 use Rattle.tn_option.specs.{Options.{state_of, options_after_wish, new_options}, QMethod.cell}
+use Rattle.tn_server.specs.declared.openings.{Approach.Approach, Opening.TheVariants.Keys}
 use Rattle.tn_server.specs.declared.wishes.Editing.{Editing}
 use Rattle.tn_session.proofs.lemmas.Sessions.{ServerTranscript, ClientTranscript, server_transcript, server_reads, server_noted, client_transcript}
 use Rattle.tn_session.proofs.lemmas.Sessions.{client_reads, client_noted}
@@ -181,11 +182,14 @@ abbrev word : Stop
 word = record {}
 
 module _ (editing : Editing) where
+  abbrev approach : Approach
+  approach = record { opening = Keys; editing = editing }
+
   abbrev settings : TermSettings
-  settings = record { canon = example.canon; editing = editing }
+  settings = record { canon = example.canon; approach = approach }
 
   abbrev r0 : term_run.Run
-  r0 = term_run.start example.canon editing table
+  r0 = term_run.start example.canon approach table
 
   abbrev r1 : term_run.Run
   r1 = term_run.flush (term_run.feed bytes items r0)
@@ -537,7 +541,7 @@ module _ (width height : ℕ) where
   client_says = refl
 
 -- BOTH
-pub sessions_carry : (editing : Editing) → example.SessionsCarryALine editing
+pub sessions_carry : (editing : Editing) → example.SessionsCarryALine (record { opening = Keys; editing = editing })
 unfolding cell state_of options_after_wish new_options running conversing
 sessions_carry editing =
     let r = r8 editing in
@@ -548,7 +552,7 @@ sessions_carry editing =
     let c_reads : all_read c_said.transcript ≡ [] = client_reads (c0 80 24) (told_all 80 24) c (of_client.says c) c_said in
     let whole : all_read s_said.transcript ≡ all_wrote c_said.transcript = s_reads ∙ sym (c_said.writes ∙ client_says 80 24) in
     let s : Served example.any_jobs example.canon = record {
-      editing = editing;
+      approach = approach editing;
       to_make = None;
       reader = a_socket;
       writer = writes_unknown;
@@ -568,7 +572,7 @@ sessions_carry editing =
     record {
       server = s;
       client = c;
-      edited = refl;
+      approached = refl;
       with_keys = All-cons (λ input. HasKey example.canon.settings input) (key_typed 97) (key_typed 13 ∷ []) tt
           (All-cons (λ input. HasKey example.canon.settings input) (key_typed 13) [] tt (All-nil (λ input. HasKey example.canon.settings input)));
       carried = one_way s_said.transcript c_said.transcript whole c_reads;

@@ -8,7 +8,7 @@ use Rattle.tn_cores.specs.declared.{client.messages.Told.Told, messages.Message.
 use Rattle.tn_discipline.specs.Canon.{Canon, typed_entries}
 use Rattle.tn_jobs.specs.Jobs.{Jobs}
 use Rattle.tn_nvt.specs.{Spelling.spells, Prefixes.IsPrefixOf}
-use Rattle.tn_server.specs.{Lines.entries, declared.wishes.Editing.Editing}
+use Rattle.tn_server.specs.{Lines.entries, declared.openings.Approach.Approach}
 use Rattle.tn_server.specs.Replies as server_says
 use Rattle.tn_cores.specs.server.Marks as term
 use Rattle.tn_cores.specs.server.Run as term_run
@@ -40,10 +40,10 @@ pub record Both : Type 0 where
 
 -- before the first step: the opening messages were written or not, and a line has at most `limit` bytes at
 -- the client
-abbrev pub began : Bool → Canon → Editing → Jobs → ℕ → ℕ → ℕ → Both
-began opens canon editing jobs width height limit =
+abbrev pub began : Bool → Canon → Approach → Jobs → ℕ → ℕ → ℕ → Both
+began opens canon approach jobs width height limit =
     record {
-      server = term.run_after_opening opens (term_run.start canon editing jobs);
+      server = term.run_after_opening opens (term_run.start canon approach jobs);
       client = core_run.start width height limit;
     }
 

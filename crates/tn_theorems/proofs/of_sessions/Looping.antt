@@ -25,7 +25,7 @@ use Rattle.tn_theorems.specs.sessions.Transcripts.{HasKey, Step, served, told, s
 use Rattle.tn_theorems.specs.declared.sessions.one_loop.{LoopEvent.{LoopEvent, TheVariants.{Typed, Asked, ToServer, ToClient, Take, Said}}, Joined.Joined}
 use Rattle.tn_cores.specs.declared.messages.Message.TheVariants as message
 use Rattle.tn_server.specs.Events as server
-use Rattle.tn_server.specs.{Lines.{entries, waiting}, declared.wishes.Editing.Editing}
+use Rattle.tn_server.specs.{Lines.{entries, waiting}, declared.openings.Approach.Approach}
 use Rattle.tn_session.proofs.lemmas.{Noting.IsUpTo, Sessions.{client_stepped, server_stepped}, Transcribing.prefix_trans}
 use Rattle.tn_session.specs.Client as of_client
 use Rattle.tn_session.specs.CoreTurns as cores
@@ -135,9 +135,9 @@ unwritten_one core_is.WriteFailed e = refl
 unwritten_one core_is.ShowFailed e = refl
 unwritten_one (core_is.Refused f) e = refl
 
-module _ (canon : Canon) (editing : Editing) (jobs : Jobs) (width height : ℕ) where
+module _ (canon : Canon) (approach : Approach) (jobs : Jobs) (width height : ℕ) where
   abbrev first_server : term_run.Run
-  first_server = term_run.start canon editing jobs
+  first_server = term_run.start canon approach jobs
 
   abbrev first_client : core_run.Run
   first_client = core_run.start width height canon.limit
@@ -171,7 +171,7 @@ module _ (canon : Canon) (editing : Editing) (jobs : Jobs) (width height : ℕ) 
     pub keys : typed_in cs ≡ typed
     pub are_inputs : AllInputs cs
 
-  pub begins : (j : Joined) → IsStart canon editing jobs width height j → Here [] j
+  pub begins : (j : Joined) → IsStart canon approach jobs width height j → Here [] j
   begins j start =
       let first : List Step = served (record { read = []; wrote = opening }) ∷ [] in
       let to_server : all_wrote (client_steps first) ≡ all_read (server_steps first) ++ j.to_server.items = sym start.to_server in
@@ -341,17 +341,17 @@ module _ (canon : Canon) (editing : Editing) (jobs : Jobs) (width height : ℕ) 
       let marked = map (λ (s : ServerStep). s.0) h.ss in
       let cmarked = map (λ (s : ClientStep). s.0) h.cs in
       let last : Both = record { server = h.server; client = h.client } in
-      let tied = ties canon editing width height standard in
+      let tied = ties canon approach width height standard in
       let s_transcribed = server_stepped first_server h.server h.ss opening h.served_by said_at_first in
       let c_transcribed = client_stepped first_client h.client h.cs h.told_by refl in
       let carried : IsCarried (record { read = []; wrote = opening } ∷ map served_step h.ss) (map told_step h.cs) =
       record { order = h.order; of_server = h.of_server; of_client = h.of_client; in_time = h.in_time } in
-      let at = holds canon editing width height true jobs (λ k l. AreTied canon k l) tied
+      let at = holds canon approach width height true jobs (λ k l. AreTied canon k l) tied
       (None ∷ map (λ (m : Message × term_mark.ServerMark). Some m) marked) cmarked last (opening ++ total h.ss)
       (total h.cs) _ _ s_transcribed c_transcribed carried in
       let s_runs = steps_run h.ss first_server h.server h.served_by in
       let c_runs = told_run h.cs first_client h.client h.told_by in
-      let hear = hears true canon editing jobs marked h.server s_runs in
+      let hear = hears true canon approach jobs marked h.server s_runs in
       let order = in_order width height canon.limit cmarked h.client c_runs in
       let same = (run_typed cmarked first_client h.client c_runs refl (left_last h.cs h.are_inputs) (record { latest = λ e. refl; same = refl })).same in
       let of_inputs : typed ≡ inputs h.client.history ++ order.untyped = sym h.keys ∙ order.typed in
@@ -365,7 +365,7 @@ module _ (canon : Canon) (editing : Editing) (jobs : Jobs) (width height : ℕ) 
       ∙ ap (λ (xs : List Input). keys_of canon.settings xs) same) in
       let keys_first : keys_of canon.settings typed ≡ typed_first ++ keys_of canon.settings order.untyped =
       ap (λ (xs : List Input). keys_of canon.settings xs) of_inputs ∙ keys_of-append canon.settings (inputs h.client.history) order.untyped in
-      let fronts = puts_are_front true canon editing jobs marked h.server s_runs in
+      let fronts = puts_are_front true canon approach jobs marked h.server s_runs in
       let front : IsPrefixOf (entries_put j.puts.items) (entries h.server.history) =
       (fronts.0, ap (λ (ps : List (Option Entry)). entries_put ps ++ fronts.0) (sym h.puts) ∙ fronts.1) in
       let mid : IsPrefixOf (entries h.server.history) (typed_entries canon typed_first) =
@@ -385,7 +385,7 @@ module _ (canon : Canon) (editing : Editing) (jobs : Jobs) (width height : ℕ) 
             let whole = histories.complete canon h.server.history h.client.sent both
             (heard_all h.server.stream (server.items h.server.history) (client_says.items_said h.client.sent) hear.read (sent-fits h.client.sent)
             (stream ∙ said)) in
-            let given = puts_are_given true canon editing jobs marked h.server s_runs s_live in
+            let given = puts_are_given true canon approach jobs marked h.server s_runs s_live in
             let all_keys : typed_first ≡ keys_of canon.settings typed =
             sym (keys_first ∙ ap (λ (xs : List Input). typed_first ++ keys_of canon.settings xs) (order.all c_live).0 ∙ append-nil typed_first) in (
               h.server,
@@ -444,6 +444,6 @@ module _ (canon : Canon) (editing : Editing) (jobs : Jobs) (width height : ℕ) 
               sym (append_assoc (cores.says a) d.1 (total ds)) ∙ ap (λ (l : List ℕ). l ++ total ds) one ∙ go ds f.0 b f.2 live
 
 pub loop_reads : LoopReads
-loop_reads canon editing jobs width height first last script standard have start goes =
-    reads_all canon editing jobs width height (inputs_of script) last standard have
-    (all_happen canon editing jobs width height [] script first last (begins canon editing jobs width height first start) goes)
+loop_reads canon approach jobs width height first last script standard have start goes =
+    reads_all canon approach jobs width height (inputs_of script) last standard have
+    (all_happen canon approach jobs width height [] script first last (begins canon approach jobs width height first start) goes)

@@ -49,8 +49,8 @@ module _ {J : Type 0} (facts : JobFacts J) (canon : Canon) (s : Served facts can
   lines =
       let schedule = s.ran.schedule in
       let Tied : server.History → client.History → Type 0 = λ h k. AreTied canon h k in
-      let tied = ties canon s.editing c.width c.height standard in
-      let at = holds canon s.editing c.width c.height schedule.wrote_opening s.ran.jobs Tied tied
+      let tied = ties canon s.approach c.width c.height standard in
+      let at = holds canon s.approach c.width c.height schedule.wrote_opening s.ran.jobs Tied tied
       (None ∷ map (λ m. Some m) schedule.marked) c.ran.marked last schedule.written c.ran.written s.ran.transcript c.ran.transcript s.ran.noted.transcribed
       c.ran.transcribed carried in
       let both : TiedHistories canon last.server.history last.client.sent = at.tied (typeable canon.settings standard c.ran.run.sent have_keys) in
@@ -58,7 +58,7 @@ module _ {J : Type 0} (facts : JobFacts J) (canon : Canon) (s : Served facts can
         prefix = histories.prefix canon last.server.history last.client.sent both;
         complete = λ all. histories.complete canon last.server.history last.client.sent both
             (heard_all last.server.stream (server.items last.server.history) (client_says.items_said last.client.sent)
-            (hears schedule.wrote_opening canon s.editing s.ran.jobs schedule.marked last.server schedule.runs).read (sent-fits last.client.sent) all);
+            (hears schedule.wrote_opening canon s.approach s.ran.jobs schedule.marked last.server schedule.runs).read (sent-fits last.client.sent) all);
       }
 
   abbrev typed_first : List ℕ

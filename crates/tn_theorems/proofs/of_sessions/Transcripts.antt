@@ -14,7 +14,7 @@ use Rattle.tn_theorems.proofs.of_sessions.{Walking.{Ties, At, first, server_goes
 use Rattle.tn_theorems.proofs.of_sessions.Joint as runs
 use Rattle.tn_theorems.specs.sessions.Transcripts.{Step, served, told, server_steps, client_steps, IsInTime, IsCarried}
 use Rattle.tn_server.specs.Events as server
-use Rattle.tn_server.specs.declared.wishes.Editing.{Editing}
+use Rattle.tn_server.specs.declared.openings.Approach.{Approach}
 use Rattle.tn_session.proofs.lemmas.Transcribing.{prefix_trans, all_read-append, all_wrote-append}
 use Rattle.tn_session.specs.Client as of_client
 use Rattle.tn_session.specs.Session as of_server
@@ -94,13 +94,13 @@ no_step x xs e = cc
 pub heads : (x y : Exchange) (xs ys : List Exchange) → x ∷ xs ≡ y ∷ ys → (x ≡ y) × (xs ≡ ys)
 heads x y xs ys e = (cc, cc)
 
-module _ (canon : Canon) (editing : Editing) (width height : ℕ) (opens : Bool) (jobs : Jobs) (Tied : server.History → client.History → Type 0)
-    (ties : Ties canon editing width height Tied) where
+module _ (canon : Canon) (approach : Approach) (width height : ℕ) (opens : Bool) (jobs : Jobs) (Tied : server.History → client.History → Type 0)
+    (ties : Ties canon approach width height Tied) where
   abbrev Holds : Both → Type 0
-  Holds now = At canon editing width height opens jobs Tied ties now
+  Holds now = At canon approach width height opens jobs Tied ties now
 
   abbrev start : Both
-  start = first canon editing width height opens jobs Tied ties
+  start = first canon approach width height opens jobs Tied ties
 
   -- both, after these steps
   record Here (steps : List Step) (s : Point term_run.Run) (c : Point core_run.Run) : Type 0 where
@@ -119,7 +119,7 @@ module _ (canon : Canon) (editing : Editing) (width height : ℕ) (opens : Bool)
       → client_brought done ≡ all_read c
       → IsPrefixOf (all_wrote s) (runs.server_said now) → IsPrefixOf (all_wrote c) (runs.client_said now) → IsInTime s c → runs.IsInTime now
   in_time done now s c r rs rc ws wc i =
-      let hs = hears opens canon editing jobs (runs.server_steps done) now.server r.0 in
+      let hs = hears opens canon approach jobs (runs.server_steps done) now.server r.0 in
       let hc = in_order width height canon.limit (runs.client_steps done) now.client r.1 in
       record {
         to_server = prefix_trans now.server.stream (all_read s) (runs.client_said now) (hs.unheard, sym hs.stream_first ∙ rs)
@@ -159,7 +159,7 @@ module _ (canon : Canon) (editing : Editing) (width height : ℕ) (opens : Bool)
       let now : Both = record { server = s.run; client = c.run } in
       let next : Both = record { server = new.run; client = c.run } in
       let done = here.done ++ runs.served (m, k) ∷ [] in
-      let r = more_served canon editing width height opens jobs Tied ties here.done now (m, k) new.run here.runs_so step.turn in
+      let r = more_served canon approach width height opens jobs Tied ties here.done now (m, k) new.run here.runs_so step.turn in
       let same : client_steps (steps ++ served x ∷ []) ≡ client_steps steps = client-append steps (served x ∷ []) ∙ append-nil (client_steps steps) in
       let one = server-append steps (served x ∷ []) in
       let server_read : server_brought done ≡ all_read (server_steps (steps ++ served x ∷ [])) =
@@ -182,7 +182,7 @@ module _ (canon : Canon) (editing : Editing) (width height : ℕ) (opens : Bool)
         client_wrote = client_wrote;
         server_said = step.said;
         client_said = here.client_said;
-        at = server_goes canon editing width height opens jobs Tied ties here.done now m k new.run r timely step.turn here.at;
+        at = server_goes canon approach width height opens jobs Tied ties here.done now m k new.run r timely step.turn here.at;
       }
 
   -- a message at the core
@@ -193,7 +193,7 @@ module _ (canon : Canon) (editing : Editing) (width height : ℕ) (opens : Bool)
       let now : Both = record { server = s.run; client = c.run } in
       let next : Both = record { server = s.run; client = new.run } in
       let done = here.done ++ runs.told (m, k) ∷ [] in
-      let r = more_told canon editing width height opens jobs Tied ties here.done now (m, k) new.run here.runs_so step.turn in
+      let r = more_told canon approach width height opens jobs Tied ties here.done now (m, k) new.run here.runs_so step.turn in
       let same : server_steps (steps ++ told x ∷ []) ≡ server_steps steps = server-append steps (told x ∷ []) ∙ append-nil (server_steps steps) in
       let one = client-append steps (told x ∷ []) in
       let server_read : server_brought done ≡ all_read (server_steps (steps ++ told x ∷ [])) =
@@ -216,7 +216,7 @@ module _ (canon : Canon) (editing : Editing) (width height : ℕ) (opens : Bool)
         client_wrote = client_wrote;
         server_said = here.server_said;
         client_said = step.said;
-        at = client_goes canon editing width height opens jobs Tied ties here.done now m k new.run r timely step.turn here.at;
+        at = client_goes canon approach width height opens jobs Tied ties here.done now m k new.run r timely step.turn here.at;
       }
 
   abbrev AllInTime : List Step → Type 0
@@ -266,5 +266,5 @@ module _ (canon : Canon) (editing : Editing) (width height : ℕ) (opens : Bool)
         client_wrote = refl;
         server_said = (of_server.says start.server, refl);
         client_said = (of_client.says start.client, refl);
-        at = begun_at canon editing width height opens jobs Tied ties;
+        at = begun_at canon approach width height opens jobs Tied ties;
       })

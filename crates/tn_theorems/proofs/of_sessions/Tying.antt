@@ -5,17 +5,17 @@ use Rattle.tn_client.specs.Events as client
 use Rattle.tn_discipline.specs.{Canon.Canon, Characters.standard_characters}
 use Rattle.tn_theorems.proofs.of_sessions.Walking.{Ties}
 use Rattle.tn_server.specs.Events as server
-use Rattle.tn_server.specs.{Screen.queue, declared.wishes.Editing.Editing}
+use Rattle.tn_server.specs.{Screen.queue, declared.openings.Approach.Approach}
 use Rattle.tn_world.proofs.lemmas.Histories as histories
 use Rattle.tn_world.proofs.lemmas.Histories.{AreTypeable, TiedHistories}
 
 abbrev pub AreTied : Canon → server.History → client.History → Type 0
 AreTied canon h k = AreTypeable canon.settings k → TiedHistories canon h k
 
-pub ties : (canon : Canon) (editing : Editing) (width height : ℕ) → canon.settings.chars ≡ standard_characters
-    → Ties canon editing width height (λ h k. AreTied canon h k)
-ties canon editing width height standard = record {
-  begins = λ ok. histories.begins canon editing width height (length (queue (server.next (server.begun canon) (server.wished editing)))) standard;
+pub ties : (canon : Canon) (approach : Approach) (width height : ℕ) → canon.settings.chars ≡ standard_characters
+    → Ties canon approach width height (λ h k. AreTied canon h k)
+ties canon approach width height standard = record {
+  begins = λ ok. histories.begins approach.opening canon approach.editing width height (length (queue (server.next (server.begun approach.opening canon) (server.wished approach.editing)))) standard;
   reaches = λ h k x p t ok. histories.reaches canon h k x p (t ok);
   takes = λ h k t ok. histories.called canon h k server.took tt (t ok);
   writes = λ h k bytes t ok. histories.called canon h k (server.wrote bytes) tt (t ok);

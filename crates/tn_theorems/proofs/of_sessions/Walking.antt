@@ -19,15 +19,15 @@ use Rattle.tn_nvt.specs.{declared.items.Item.Item, Prefixes.IsPrefixOf}
 use Rattle.tn_server.proofs.lemmas.Fitting.{sent-fit}
 use Rattle.tn_server.specs.Events as server
 use Rattle.tn_server.specs.Replies as server_says
-use Rattle.tn_server.specs.declared.wishes.Editing.{Editing}
+use Rattle.tn_server.specs.declared.openings.Approach.{Approach}
 use Rattle.tn_cores.specs.server.Marks as term
 use Rattle.tn_cores.specs.server.Run as term_run
 use Rattle.tn_cores.specs.declared.server.messages.ServerMark as term_mark
 
 -- WHAT IS NEEDED OF TWO HISTORIES: these hold of the opening, and each event of a terminal or a core keeps
 -- them, if an item comes only in the order in which it was sent.
-pub record Ties (canon : Canon) (editing : Editing) (width height : ℕ) (Tied : server.History → client.History → Type 0) : Type 0 where
-  pub begins : Tied (term_run.opening canon editing) (client.begun width height canon.limit)
+pub record Ties (canon : Canon) (approach : Approach) (width height : ℕ) (Tied : server.History → client.History → Type 0) : Type 0 where
+  pub begins : Tied (term_run.opening canon approach) (client.begun width height canon.limit)
   pub reaches : (h : server.History) (k : client.History) (x : Item) → IsPrefixOf (server.items h ++ x ∷ []) (client_says.items_said k) → Tied h k
       → Tied (server.next h (server.got x)) k
   pub takes : (h : server.History) (k : client.History) → Tied h k → Tied (server.next h server.took) k
@@ -45,10 +45,10 @@ joins : {P A : Type 0} (R : P → A → P → Type 0) (p m q : P) (xs : List A) 
 joins {P} {A} R p m q [] x f r = (q, subst (λ (u : P). R u x q) (sym f) r, refl)
 joins R p m q (y ∷ ys) x f r = (f.0, f.1, joins R f.0 m q ys x f.2 r)
 
-module _ (canon : Canon) (editing : Editing) (width height : ℕ) (opens : Bool) (jobs : Jobs) (Tied : server.History → client.History → Type 0)
-    (ties : Ties canon editing width height Tied) where
+module _ (canon : Canon) (approach : Approach) (width height : ℕ) (opens : Bool) (jobs : Jobs) (Tied : server.History → client.History → Type 0)
+    (ties : Ties canon approach width height Tied) where
   abbrev pub first : Both
-  first = began opens canon editing jobs width height canon.limit
+  first = began opens canon approach jobs width height canon.limit
 
   abbrev pub At : Both → Type 0
   At now = ClientAt (λ k. Tied now.server.history k) now.client
@@ -56,7 +56,7 @@ module _ (canon : Canon) (editing : Editing) (width height : ℕ) (opens : Bool)
   server_heard : (done : List Step) (now : Both) → Runs first done now → IsInTime now
       → IsPrefixOf (server.items now.server.history) (client_says.items_said now.client.sent)
   server_heard done now r i = heard_first now.server.stream (server.items now.server.history) (client_says.items_said now.client.sent)
-      (hears opens canon editing jobs (server_steps done) now.server r.0).read (sent-fits now.client.sent) i.to_server
+      (hears opens canon approach jobs (server_steps done) now.server r.0).read (sent-fits now.client.sent) i.to_server
 
   client_heard : (done : List Step) (now : Both) → Runs first done now → IsInTime now
       → IsPrefixOf (client.items now.client.history) (server_says.items_said now.server.history)
@@ -114,7 +114,7 @@ module _ (canon : Canon) (editing : Editing) (width height : ℕ) (opens : Bool)
         (joins core.Turns first.client now.client mid (client_steps done) x r.1 t),
   )
 
-  begun_history : (b : Bool) → (term.run_after_opening b (term_run.start canon editing jobs)).history ≡ term_run.opening canon editing
+  begun_history : (b : Bool) → (term.run_after_opening b (term_run.start canon approach jobs)).history ≡ term_run.opening canon approach
   begun_history true = refl
   begun_history false = refl
 

@@ -30,7 +30,7 @@ abbrev pub AnswersOfServer : {J : Type 0} {facts : JobFacts J} {canon : Canon} �
 AnswersOfServer {J} {facts} {canon} s =
     (done later : List Exchange) (step : Exchange) → s.ran.transcript ≡ (done ++ step ∷ []) ++ later
     → AreAnswered of_server.OpensOrTurns of_server.says
-    (run_after_opening s.ran.schedule.wrote_opening (term_run.start canon s.editing s.ran.jobs))
+    (run_after_opening s.ran.schedule.wrote_opening (term_run.start canon s.approach s.ran.jobs))
     (None ∷ map (λ m. Some m) s.ran.schedule.marked) s.ran.schedule.written (done ++ step ∷ [])
 
 -- after each step of its transcript the client has written all that it sent by then

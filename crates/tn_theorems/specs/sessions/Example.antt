@@ -4,7 +4,7 @@ use Rattle.std.specs.Prelude.{◌≡◌, All, [], ◌∷◌}
 use Rattle.tn_discipline.specs.{Canon.Canon, Characters.standard_characters, Keys.standard_flags}
 use Rattle.tn_discipline.specs.{Limits.standard_limit, declared.reads.Entry.TheVariants.Text}
 use Rattle.tn_theorems.specs.sessions.Transcripts.{Served, Connected, IsCarried, RanToTheEnd, HasKey}
-use Rattle.tn_server.specs.declared.wishes.Editing.{Editing}
+use Rattle.tn_server.specs.declared.openings.Approach.{Approach}
 use Rattle.tn_session.specs.Facts.{JobFacts, job_facts}
 
 -- a new terminal
@@ -21,10 +21,10 @@ any_jobs = job_facts (λ job. Unit {0}) (λ old entry reaction new. Unit {0}) (�
     (λ job entry. Unit {0})
 
 -- Two sessions, of which a socket carries the line: it is typed, and taken, and both run to the end.
-pub record SessionsCarryALine (editing : Editing) : Type 0 where
+pub record SessionsCarryALine (approach : Approach) : Type 0 where
   pub server : Served any_jobs canon
   pub client : Connected canon.limit
-  pub edited : server.editing ≡ editing
+  pub approached : server.approach ≡ approach
   pub with_keys : All (λ input. HasKey canon.settings input) client.ran.inputs
   pub carried : IsCarried server.ran.transcript client.ran.transcript
   pub ran : RanToTheEnd server client

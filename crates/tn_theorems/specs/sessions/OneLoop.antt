@@ -17,19 +17,19 @@ use Rattle.tn_theorems.specs.declared.sessions.one_loop.LoopEvent.TheVariants.{T
 use Rattle.tn_theorems.specs.declared.sessions.one_loop.LoopEvent.TheVariants.{ToServer, ToClient}
 use Rattle.tn_cores.specs.declared.messages.Message.TheVariants as message
 use Rattle.tn_nvt.specs.{Spelling.spells, Prefixes.IsPrefixOf}
-use Rattle.tn_server.specs.{Lines.waiting, Replies.items_said, declared.wishes.Editing.Editing}
+use Rattle.tn_server.specs.{Lines.waiting, Replies.items_said, declared.openings.Approach.Approach}
 use Rattle.tn_session.specs.Transcripts.{Exchange, all_read, all_wrote}
 use Rattle.tn_cores.specs.server.Reaching as term
 use Rattle.tn_cores.specs.server.Run as term_run
 use Rattle.tn_cores.specs.declared.server.messages.ServerMark as term_mark
 
 -- both were started: the opening messages are on their way to the client
-pub record IsStart (canon : Canon) (editing : Editing) (jobs : Jobs) (width height : ℕ)
+pub record IsStart (canon : Canon) (approach : Approach) (jobs : Jobs) (width height : ℕ)
     (j : Joined) : Type 0 where
-  pub server : term.LeadsTo (term_run.start canon editing jobs) j.term
+  pub server : term.LeadsTo (term_run.start canon approach jobs) j.term
   pub client : core.LeadsTo (core_run.start width height canon.limit) j.core
   pub to_server : j.to_server.items ≡ []
-  pub to_client : j.to_client.items ≡ spells (items_said (term_run.opening canon editing))
+  pub to_client : j.to_client.items ≡ spells (items_said (term_run.opening canon approach))
   pub shown : j.shown.items ≡ []
   pub puts : j.puts.items ≡ []
 
@@ -170,9 +170,9 @@ pub record ReadsAll (canon : Canon) (typed : List Input) (j : Joined) : Type 0 w
 -- from the start on, with the standard special characters, of which INTR interrupts if BRK or IP was sent
 abbrev pub LoopReads : Type 0
 LoopReads =
-    (canon : Canon) (editing : Editing) (jobs : Jobs) (width height : ℕ) (first last : Joined)
+    (canon : Canon) (approach : Approach) (jobs : Jobs) (width height : ℕ) (first last : Joined)
     (script : List LoopEvent)
     → canon.settings.chars ≡ standard_characters
     → All (λ input. HasKey canon.settings input) (inputs_of script)
-    → IsStart canon editing jobs width height first → FoldsTo Happens first script last
+    → IsStart canon approach jobs width height first → FoldsTo Happens first script last
     → ReadsAll canon (inputs_of script) last

@@ -10,19 +10,19 @@ use Rattle.tn_cores.specs.streams.Known.{KnownReader, KnownTyping, KnownWriting}
 use Rattle.tn_nvt.specs.{Spelling.lf, Prefixes.IsPrefixOf}
 use Rattle.tn_discipline.specs.{Canon.{Canon, typed_entries}, Characters.standard_characters}
 use Rattle.tn_discipline.specs.declared.termios.Settings.{Settings}
-use Rattle.tn_server.specs.declared.wishes.Editing.{Editing}
+use Rattle.tn_server.specs.declared.openings.Approach.{Approach}
 use Rattle.tn_session.specs.{Client.RunningClient, Facts.{ClientResult, JobFacts, SessionResult}}
 use Rattle.tn_session.specs.{Session.RunningSession, Transcripts.{Exchange, all_read, all_wrote}}
 
 -- A server's session that ran, with a terminal of this canon: what `serve_session` promises of what it
 -- returned.
 pub record Served {J : Type 0} (facts : JobFacts J) (canon : Canon) : Type 0 where
-  pub editing : Editing
+  pub approach : Approach
   pub to_make : Option ℕ
   pub reader : KnownReader
   pub writer : KnownWriting
   pub result : SessionResult
-  pub ran : RunningSession facts to_make (record { canon = canon; editing = editing }) reader writer result
+  pub ran : RunningSession facts to_make (record { canon = canon; approach = approach }) reader writer result
 
 -- A client's session that ran, with lines of at most this number of bytes: the promise of `client_session`.
 pub record Connected (limit : ℕ) : Type 0 where

@@ -6,7 +6,7 @@ ghost use Rattle.tn_theorems.specs.sessions.{Answers.{AnswersOfServer, AnswersOf
 ghost use Rattle.tn_theorems.specs.sessions.Example.{SessionsCarryALine};
 ghost use Rattle.tn_theorems.specs.sessions.Transcripts.{Headline, Served, Connected};
 ghost use Rattle.tn_session.specs.{Facts.job_facts, Makers.begins};
-ghost use Rattle.tn_server.specs.declared.wishes.Editing.{Editing};
+ghost use Rattle.tn_server.specs.declared.{openings.Opening.TheVariants.Keys, wishes.Editing.Editing};
 
 use tn_session::Maker;
 
@@ -39,7 +39,7 @@ pub fn one_loop_reads_what_is_typed()
 {}
 
 /// The premises about two sessions can be met, and both can run to the end: a line is typed at the
-/// client, and taken by the job.
+/// client, and taken by the job of a server that opens for keys.
 pub fn two_sessions_carry_a_line()
-    ensures { (editing : Editing) → SessionsCarryALine editing }
+    ensures { (editing : Editing) → SessionsCarryALine (record { opening = Keys; editing = editing }) }
 {}

@@ -2,7 +2,7 @@
 //! comes there in pieces of any length.
 //!
 //! ```
-//! let mut joined = Joined::start(alloc, settings, limit, editing, table, 80, 24)?;
+//! let mut joined = Joined::start(alloc, settings, limit, approach, table, 80, 24)?;
 //! joined.happen(alloc, Event::Typed(keys))?;
 //! joined.happen(alloc, Event::ToServer(512))?;
 //! joined.happen(alloc, Event::Take)?; // the entries that the foreground job gets are put in `puts`
@@ -21,7 +21,7 @@ use tn_cores::streams::Control;
 use tn_cores::{Message, SessionFault};
 use tn_discipline::{Entry, Limit, Settings, Text};
 use tn_jobs::{After, JobId, Table};
-use tn_server::Editing;
+use tn_server::Approach;
 
 /// The next event of the loop.
 #[derive(Drop)]
@@ -99,17 +99,17 @@ impl Joined {
         alloc: Global,
         settings: Settings,
         limit: Limit,
-        editing: Editing,
+        approach: Approach,
         table: Table,
         width: u16,
         height: u16,
     ) -> Result<Joined, SessionFault>
         ensures start { IfOk result (λ joined.
-            IsStart (record { settings = settings; limit = limit }) editing table width height joined) }
+            IsStart (record { settings = settings; limit = limit }) approach table width height joined) }
         ensures fault { IfErr result (λ fault. fault ≡ SessionFault.Memory) }
     {
         let mut to_client = Vec::new(alloc);
-        let Ok(term) = Term::start(alloc, settings, limit, editing, table, &mut to_client) else {
+        let Ok(term) = Term::start(alloc, settings, limit, approach, table, &mut to_client) else {
             return Err(SessionFault::Memory);
         };
         let Ok(core) = Core::start(alloc, width, height, limit) else {
