@@ -9,7 +9,7 @@ use std::time::Clock;
 use tn_discipline::Limit;
 use tn_serve::services::Answerers;
 use tn_serve::{Host, SessionOptions, serve_connection};
-use tn_server::Editing;
+use tn_server::{Editing, Opening};
 
 /// The length of a server's opening messages.
 const OPENING: usize = 15;
@@ -141,6 +141,7 @@ fn answer<H: Host>(rt: H, alloc: Global, peer: TcpStream, who: Who) -> bool {
         Who::Session => {
             let options = SessionOptions {
                 line_limit: Limit::standard(),
+                opening: Opening::Keys,
                 editing: Editing::Remote,
                 idle: 0,
                 longest: 0,

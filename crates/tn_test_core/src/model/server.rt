@@ -8,7 +8,7 @@ use std::alloc::Global;
 use tn_codes::{Command, Verb};
 use tn_discipline::{CharFault, Role, Settings, Sig, Symbol};
 use tn_nvt::Item;
-use tn_server::Editing;
+use tn_server::{Editing, Opening};
 
 #[derive(Drop)]
 pub(crate) struct Server {
@@ -21,11 +21,12 @@ pub(crate) struct Server {
     pub(crate) mode: u8,
     pub(crate) size: (u16, u16),
     is_due: bool,
+    opens_lines: bool,
     pub(crate) sent: Vec<u8>,
 }
 
 impl Server {
-    pub(crate) fn new(alloc: Global, settings: &Settings) -> Server {
+    pub(crate) fn new(alloc: Global, settings: &Settings, opening: Opening) -> Server {
         let mut server = Server {
             alloc,
             stream: Stream::new(alloc),
@@ -36,10 +37,15 @@ impl Server {
             mode: 0,
             size: (0, 0),
             is_due: false,
+            opens_lines: opening == Opening::Lines,
             sent: Vec::new(alloc),
         };
-        for (ours, option) in [(false, 34), (false, 31), (true, 3), (false, 3), (true, 1)] {
-            server.wish_option(ours, option, true);
+        server.wish_option(false, 34, true);
+        server.wish_option(false, 31, true);
+        if opening == Opening::Keys {
+            for (ours, option) in [(true, 3), (false, 3), (true, 1)] {
+                server.wish_option(ours, option, true);
+            }
         }
         server
     }
@@ -124,7 +130,12 @@ impl Server {
     }
 
     fn ask_echo(&mut self) {
-        let wanted = self.asked & 1 == 0 || !self.terminal.flags.echo;
+        let edits = if self.has_linemode() {
+            self.asked & 1 != 0
+        } else {
+            self.opens_lines
+        };
+        let wanted = !edits || !self.terminal.flags.echo;
         self.wish_option(true, 1, wanted);
     }
 

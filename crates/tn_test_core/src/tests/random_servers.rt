@@ -7,7 +7,7 @@ use std::process::Abort;
 use tn_codes::Func;
 use tn_discipline::{Entry, Limit, Settings, Sig};
 use tn_pty::PtyFault;
-use tn_server::{Editing, ServerEnd, ServerFault};
+use tn_server::{Editing, Opening, ServerEnd, ServerFault};
 
 const KEYS: [u8; 16] = [
     97, 98, 99, 97, 98, 0, 10, 13, 13, 3, 4, 21, 127, 127, 28, 255,
@@ -94,6 +94,14 @@ fn editing(random: &mut Random) -> Editing {
     }
 }
 
+fn opening(random: &mut Random) -> Opening {
+    if random.flips() {
+        Opening::Lines
+    } else {
+        Opening::Keys
+    }
+}
+
 // The messages of a client that has all the options.
 const JOINING: [u8; 15] = [
     255, 251, 34, 255, 251, 31, 255, 253, 3, 255, 251, 3, 255, 253, 1,
@@ -114,15 +122,19 @@ struct Compared {
 }
 
 impl Compared {
-    fn start(alloc: Global, settings: Settings) -> Result<Compared, ServerFault> {
+    fn start(
+        alloc: Global,
+        settings: Settings,
+        opening: Opening,
+    ) -> Result<Compared, ServerFault> {
         let mut sent = Vec::new(alloc);
         Ok(Compared {
             alloc,
-            end: ServerEnd::start(alloc, settings, Limit::standard(), &mut sent)?,
+            end: ServerEnd::open(opening, alloc, settings, Limit::standard(), &mut sent)?,
             stream: Vec::new(alloc),
             sent,
             taken: Vec::new(alloc),
-            plain: Server::new(alloc, &settings),
+            plain: Server::new(alloc, &settings, opening),
         })
     }
 
@@ -256,7 +268,7 @@ fn go_on(rt: &impl Abort, compared: &mut Compared, random: &mut Random) -> bool 
 
 // One end.
 fn run_beside(rt: &impl Abort, alloc: Global, random: &mut Random) -> Result<(), ServerFault> {
-    let mut compared = Compared::start(alloc, settings(random))?;
+    let mut compared = Compared::start(alloc, settings(random), opening(random))?;
     live(rt, &mut compared, random);
     Ok(())
 }

@@ -30,7 +30,10 @@ fn start(alloc: Global, word: &str, sent: &mut Vec<u8>) -> Option<ServerEnd> {
         },
         _ => {},
     }
-    ServerEnd::start(alloc, settings, Limit::standard(), sent).ok()
+    match word {
+        "for-lines" => ServerEnd::start_lines(alloc, settings, Limit::standard(), sent).ok(),
+        _ => ServerEnd::start(alloc, settings, Limit::standard(), sent).ok(),
+    }
 }
 
 impl Stage for Server {
@@ -43,7 +46,7 @@ impl Stage for Server {
     fn step(&mut self, words: Words<'_>, page: &mut Page) -> bool {
         match words.verb {
             "opening" => page.tell("sent", &mut self.sent),
-            "ignoring-returns" | "echoing-newlines" => return self.start_anew(words.verb),
+            "ignoring-returns" | "echoing-newlines" | "for-lines" => return self.start_anew(words.verb),
             "write" => page.say(&self.end.write(&words.bytes(self.alloc))),
             "half" => page.bytes("half", self.end.half()),
             "mode" => page.say(&self.end.mode()),
@@ -270,6 +273,12 @@ const EDITING: &[(&str, &str)] = &[
     (
         "echoing-newlines; join; feed 610d00; pull 9; wish local; feed fffa220107fff0; feed 610d0a; pull 9",
         "1; sent 0d0a; true; sent fffa220103fff0; 0",
+    ),
+    // A server for clients that edit lines themselves echoes only for LINEMODE, and hides by WILL ECHO.
+    (
+        "for-lines; feed 6c730d0a; take; pull 9; echo off; feed fffd01; echo on; feed fffe01; feed fffb22",
+        "text 6c730a; 0; sent fffb01; sent fffc01; \
+         sent fffa220303020307021c08020409021a0a027f0b0215110000120000fff0fffb01",
     ),
 ];
 

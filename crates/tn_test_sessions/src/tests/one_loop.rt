@@ -5,7 +5,7 @@ use std::process::Abort;
 use std::test::Fail;
 use tn_discipline::{Entry, Limit, Settings, Text};
 use tn_jobs::Table;
-use tn_server::Editing;
+use tn_server::{Approach, Editing, Opening};
 use tn_theorems::sessions::{Joined, LoopEvent};
 
 fn text_of(alloc: Global, bytes: &[u8]) -> Result<Text, AllocError> {
@@ -14,12 +14,12 @@ fn text_of(alloc: Global, bytes: &[u8]) -> Result<Text, AllocError> {
     Ok(Text::from(text))
 }
 
-fn start(alloc: Global, editing: Editing) -> Result<Joined, Fail> {
+fn start(alloc: Global, approach: Approach) -> Result<Joined, Fail> {
     let mut table = Table::new(alloc);
     table.add()?;
     let settings = Settings::standard();
     let limit = Limit::standard();
-    match Joined::start(alloc, settings, limit, editing, table, 80, 24) {
+    match Joined::start(alloc, settings, limit, approach, table, 80, 24) {
         Ok(joined) => Ok(joined),
         Err(fault) => Err(Fail::from(fault)),
     }
@@ -58,21 +58,31 @@ fn has_read_it(joined: &Joined, rt: &impl Abort, alloc: Global) -> Result<(), Fa
 fn reads_a_line(
     rt: &impl Abort,
     alloc: Global,
-    editing: Editing,
+    approach: Approach,
     count: usize,
 ) -> Result<(), Fail> {
-    let mut joined = start(alloc, editing)?;
+    let mut joined = start(alloc, approach)?;
     type_a_line(&mut joined, alloc, count)?;
     has_read_it(&joined, rt, alloc)
 }
 
 #[test]
 fn one_loop_reads_what_is_typed_wherever_it_is_edited(rt: HostRuntime) -> Result<(), Fail> {
-    for count in 1..4 {
-        reads_a_line(&rt, rt.alloc(), Editing::Remote, count)?;
-        reads_a_line(&rt, rt.alloc(), Editing::Local, count)?;
+    for opening in [Opening::Keys, Opening::Lines] {
+        let remote = Approach {
+            opening,
+            editing: Editing::Remote,
+        };
+        let local = Approach {
+            opening,
+            editing: Editing::Local,
+        };
+        for count in 1..4 {
+            reads_a_line(&rt, rt.alloc(), remote, count)?;
+            reads_a_line(&rt, rt.alloc(), local, count)?;
+        }
+        reads_a_line(&rt, rt.alloc(), local, 512)?;
     }
-    reads_a_line(&rt, rt.alloc(), Editing::Local, 512)?;
     Ok(())
 }
 
@@ -85,7 +95,7 @@ fn reads_nothing(joined: &mut Joined, alloc: Global) -> Result<bool, Fail> {
 
 #[test]
 fn nothing_is_read_before_it_comes(rt: HostRuntime) -> Result<(), Fail> {
-    let mut joined = start(rt.alloc(), Editing::Remote)?;
+    let mut joined = start(rt.alloc(), Approach::for_keys(Editing::Remote))?;
     assert!(&rt; reads_nothing(&mut joined, rt.alloc())?);
     Ok(())
 }

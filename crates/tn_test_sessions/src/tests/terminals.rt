@@ -7,7 +7,7 @@ use tn_cores::server::{Put, Term};
 use tn_cores::{Ended, Message, SessionFault};
 use tn_discipline::{Entry, Limit, Settings, Text};
 use tn_jobs::{After, JobId, Table};
-use tn_server::Editing;
+use tn_server::{Approach, Editing};
 
 /// The opening messages, the text `a` with a new line, and GA. The client has not let the server
 /// echo.
@@ -22,7 +22,8 @@ fn started(alloc: Global) -> Result<(Term, JobId, Vec<u8>), Fail> {
     table.foreground(job)?;
     let (settings, limit) = (Settings::standard(), Limit::standard());
     let mut sent = Vec::new(alloc);
-    let term = Term::start(alloc, settings, limit, Editing::Remote, table, &mut sent)?;
+    let approach = Approach::for_keys(Editing::Remote);
+    let term = Term::start(alloc, settings, limit, approach, table, &mut sent)?;
     Ok((term, job, sent))
 }
 

@@ -17,7 +17,7 @@ use tn_serve::{
     At, Host, Never, ServeFault, Served, Serving, SessionOptions, Until, serve, serve_connection,
     serve_on,
 };
-use tn_server::Editing;
+use tn_server::{Editing, Opening};
 use tn_session::Ended;
 use tn_session::roster::{Roster, RosterFault, note};
 
@@ -62,6 +62,7 @@ fn what_became_of_a_connection_is_noted(rt: HostRuntime) {
 fn options(idle: u32) -> SessionOptions {
     SessionOptions {
         line_limit: Limit::standard(),
+        opening: Opening::Keys,
         editing: Editing::Remote,
         idle,
         longest: 0,

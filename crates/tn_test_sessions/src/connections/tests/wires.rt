@@ -14,7 +14,7 @@ use std::thread::Threads;
 use tn_connect::Host;
 use tn_discipline::{Limit, Settings};
 use tn_serve::services::Answerers;
-use tn_server::Editing;
+use tn_server::{Approach, Editing, Opening};
 use tn_session::{Ended, Finish, Unwatched, client_session, serve_session};
 
 /// The bytes that went one way, and how much of them was read.
@@ -135,7 +135,7 @@ fn serve<R: Threads + Wait + Copy + Send + 'static>(
     rt: R,
     alloc: Global,
     (reader, mut writer): (End<R>, End<R>),
-    editing: Editing,
+    approach: Approach,
 ) -> Option<u64> {
     let gate = Arc::new(alloc, Unwatched).ok()?;
     let (settings, limit) = (Settings::standard(), Limit::standard());
@@ -147,7 +147,7 @@ fn serve<R: Threads + Wait + Copy + Send + 'static>(
         &mut writer,
         settings,
         limit,
-        editing,
+        approach,
         jobs,
         gate,
     )
@@ -189,7 +189,7 @@ fn join<R: Threads + Wait + Copy + Send + 'static>(
 fn converse<H>(
     rt: H,
     alloc: Global,
-    editing: Editing,
+    approach: Approach,
 ) -> Result<(Option<u64>, Option<Ended>, Arc<Mutex<Wire>, Global>), Fail>
 where
     H: Files<File = File> + Host + Net<Listener = TcpListener, Stream = TcpStream>,
@@ -205,7 +205,7 @@ where
     let theirs = Arc::try_clone(&wire)?;
     let server = thread::spawn(&rt, move || -> Option<u64> {
         let (stream, _) = listener.accept().ok()?;
-        serve(rt, alloc, ends(rt, stream, &theirs, true)?, editing)
+        serve(rt, alloc, ends(rt, stream, &theirs, true)?, approach)
     })?;
     let stream = TcpStream::connect(&rt, (Ipv4Addr::LOCALHOST, port))?;
     let ended = match ends(rt, stream, &wire, false) {
@@ -217,8 +217,14 @@ where
 
 #[test]
 fn what_either_end_reads_begins_what_the_other_wrote(rt: HostRuntime) -> Result<(), Fail> {
-    for editing in [Editing::Remote, Editing::Local] {
-        let (taken, ended, wire) = converse(rt, rt.alloc(), editing)?;
+    for (opening, editing) in [
+        (Opening::Keys, Editing::Remote),
+        (Opening::Keys, Editing::Local),
+        (Opening::Lines, Editing::Remote),
+        (Opening::Lines, Editing::Local),
+    ] {
+        let approach = Approach { opening, editing };
+        let (taken, ended, wire) = converse(rt, rt.alloc(), approach)?;
         assert!(rt; taken == Some(3));
         assert!(rt; ended == Some(Ended::HangUp));
         let wire = wire.lock(&rt);
