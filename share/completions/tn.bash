@@ -39,7 +39,7 @@ _tn() {
             world)
                 words='-h --help' ;;
             serve)
-                words='--host -p --port --listen-fd --stdin --proxy --count --forever --until --drain --limit --per-host --idle --longest --line --local --ticks --to --dial --banner --to-telnet --crlf --cr --line-cut --signals --verbose --notes --metrics -h --help' ;;
+                words='--host -p --port --listen-fd --stdin --proxy --count --forever --until --drain --limit --per-host --idle --longest --line --local --line-clients --ticks --to --dial --banner --to-telnet --crlf --cr --line-cut --signals --verbose --notes --metrics -h --help' ;;
             connect)
                 if [[ $word != -* ]]; then mapfile -t COMPREPLY < <(compgen -A hostname -A service -W "$(_tn_hosts)" -- "$word"); return; fi
                 words='-p --port -4 --ipv4 -6 --ipv6 --bind --timeout --again --mode --return --escape --keys --no-history --line --width --height --plain --lf --cr --text -q -w --log --log-times --trace --quiet -h --help' ;;

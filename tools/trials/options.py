@@ -17,6 +17,7 @@
                  --line                             a_line_has_as_many_bytes_as_it_may, plain.a_full_line_refuses_keys_and_is_sent_as_it_is_shown
 """
 import os
+import re
 import signal
 import socket
 import subprocess
@@ -30,6 +31,10 @@ EDITS = mode(1)[:4]
 
 # The first words of a server.
 OPENING = bytes.fromhex("fffd22 fffd1f fffb03 fffd03 fffb01")
+
+# The first words of a server for clients that edit lines themselves, and an option message.
+FOR_LINES = bytes.fromhex("fffd22 fffd1f")
+WORDS = re.compile(rb"\xff[\xfb-\xfe].", re.DOTALL)
 
 # A clock that runs a thousand times as fast, for a program that is loaded with it.
 FAST_CLOCK = """
@@ -183,6 +188,30 @@ def a_client_is_asked_to_edit(world, is_asked, *words):
     modes = [peer.got[at + 4] for at in range(len(peer.got)) if peer.got.startswith(EDITS, at)]
     expect_same(is_asked, any(mask & 1 for mask in modes), f"whether EDIT is asked for, by {modes}")
     peer.leave()
+    serving.end()
+
+
+@case
+def a_client_that_negotiates_nothing_edits_its_lines(world):
+    """It is asked for LINEMODE and its window's size only, and its lines reach the job without an echo."""
+    serving = Serving(world, "--line-clients")
+    peer = Peer(world, serving.port)
+    peer.read_until(FOR_LINES)
+    peer.send(b"one\r\ntwo\r\n")
+    peer.read_until(b"two\r\n")
+    peer.send(b"exit\r\n")
+    expect_same(b"one\r\ntwo\r\nbye\r\n", peer.read_to_end(), "the answers")
+    expect_same((True, 2), (peer.got.startswith(FOR_LINES), len(WORDS.findall(peer.got))), f"the option messages of {peer.got}")
+    serving.end()
+
+
+@case(each={"edited at the server": (), "edited at the client": ("--local",)})
+def a_server_for_line_clients_agrees_to_linemode(world, *words):
+    serving = Serving(world, "--line-clients", *words)
+    user = User(world, serving.port, edits="server")  # The special characters have come, which is so of either side.
+    user.type(b"onx\x7fe\r", b"\r\none\r\n")
+    user.type(b"exit\r", b"bye\r\n")
+    user.end()
     serving.end()
 
 

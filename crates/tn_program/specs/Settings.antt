@@ -10,6 +10,7 @@ use Rattle.tn_serve.specs.declared.{services.dialing.Joiner.Joiner, fault.ServeF
 use Rattle.tn_serve.specs.declared.settings.SessionOptions.{SessionOptions}
 use Rattle.tn_serve.specs.declared.fault.ServeFault.TheVariants.{Network, Memory, Limit as BadLimit}
 use Rattle.tn_connect.specs.declared.settings.KeySource.{KeySource, TheVariants.{Reader, Input, Terminal}}
+use Rattle.tn_server.specs.declared.openings.Opening.{Opening, TheVariants.{Keys, Lines}}
 use Rattle.tn_server.specs.declared.wishes.Editing.{Editing, TheVariants.{Local, Remote}}
 use Rattle.tn_session.specs.Facts.{Window}
 use Rattle.tn_cli.specs.declared.arguments.settings.Characters.{Characters, TheVariants.{Own, Standard}}
@@ -23,6 +24,11 @@ use Rattle.tn_cli.specs.declared.arguments.settings.ReturnBytes.TheVariants as b
 abbrev pub editing_as : Bool → Editing
 editing_as true = Local
 editing_as false = Remote
+
+-- the opening of a server's sessions, as `--line-clients` asks
+abbrev pub opening_as : Bool → Opening
+opening_as true = Lines
+opening_as false = Keys
 
 -- after how many connections a server ends: without end it is the greatest number of 64 bits
 abbrev pub count_as : Option ℕ → ℕ
@@ -85,6 +91,7 @@ abbrev pub options_as : ServeWords → SessionOptions
 options_as asked =
     record {
       line_limit = asked.line_limit;
+      opening = opening_as asked.line_clients;
       editing = editing_as asked.local;
       idle = idle_as asked.idle (is_local asked);
       longest = asked.longest;

@@ -18,7 +18,7 @@ use tn_discipline::Limit;
 use tn_net::network::names_path;
 use tn_serve::services::{Answerer, Answerers, LineFormat};
 use tn_serve::{Call, Finished, NoteFormat, NoteStyle, Service, Serving, SessionOptions};
-use tn_server::Editing;
+use tn_server::{Editing, Opening};
 
 /// After how many connections a server without end stops: more than can ever be accepted.
 const WITHOUT_END: u64 = u64::MAX;
@@ -189,6 +189,11 @@ pub(crate) fn lines_of(asked: &tn_cli::arguments::ServeWords) -> LineFormat
 pub(crate) fn options_of(asked: &tn_cli::arguments::ServeWords) -> SessionOptions
     ensures { result ≡ options_as asked.now }
 {
+    let opening = if asked.line_clients {
+        Opening::Lines
+    } else {
+        Opening::Keys
+    };
     let editing = if asked.local {
         Editing::Local
     } else {
@@ -196,6 +201,7 @@ pub(crate) fn options_of(asked: &tn_cli::arguments::ServeWords) -> SessionOption
     };
     SessionOptions {
         line_limit: asked.line_limit,
+        opening,
         editing,
         idle: idle_of(asked.idle, is_local(asked)),
         longest: asked.longest,

@@ -2,7 +2,7 @@
 
 use crate::arguments::options::{
     AGAIN, BANNER, BIND, COUNT, CR, CRLF, DIAL, DRAIN, ESCAPE, FOREVER, HEIGHT, IDLE, IPV4, IPV6,
-    KEYS, LF, LIMIT, LINE, LINE_CUT, LISTEN_FD, LOCALLY, LOG, LOG_TIMES, LONGEST, METRICS, MODE,
+    KEYS, LF, LIMIT, LINE, LINE_CLIENTS, LINE_CUT, LISTEN_FD, LOCALLY, LOG, LOG_TIMES, LONGEST, METRICS, MODE,
     NO_HISTORY, NOTES, PATIENCE, PER_HOST, PLAIN, PROXIED, QUIET, RETURN, SIGNALS, STDIN, TEXT,
     TICKS, TIMEOUT, TO, TO_TELNET, TRACE, UNTIL, VERBOSE, WAIT, WIDTH, Whole,
 };
@@ -124,6 +124,10 @@ pub(crate) const SERVE_GROUPS: &[Group] = &[
         heading: Some("The session"),
         choices: &[
             Choice::Flag(LOCALLY, "Ask the client to edit the lines"),
+            Choice::Flag(
+                LINE_CLIENTS,
+                "Let a client without LINEMODE edit and echo its lines itself",
+            ),
             Choice::Default(
                 TICKS,
                 "COUNT",

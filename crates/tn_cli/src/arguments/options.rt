@@ -172,6 +172,8 @@ pub(crate) const TEXT: &str = "text";
 
 pub(crate) const LOCALLY: &str = "local";
 
+pub(crate) const LINE_CLIENTS: &str = "line-clients";
+
 pub(crate) const VERBOSE: &str = "verbose";
 
 pub(crate) const PROXIED: &str = "proxy";

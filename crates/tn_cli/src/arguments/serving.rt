@@ -5,7 +5,7 @@ ghost use Rattle.tn_cli.specs.arguments.Ranges.{AreServeNumbersWithin, IsWithin,
 
 use crate::arguments::lacks::{Lack, NO_NUMBER, lacking, no_value};
 use crate::arguments::options::{
-    BANNER, COUNT, CR, CRLF, DIAL, DRAIN, FOREVER, IDLE, LIMIT, LINE, LINE_CUT, LOCALLY, LONGEST,
+    BANNER, COUNT, CR, CRLF, DIAL, DRAIN, FOREVER, IDLE, LIMIT, LINE, LINE_CLIENTS, LINE_CUT, LOCALLY, LONGEST,
     METRICS, MOST_PATH, NOTES, PER_HOST, PROXIED, SIGNALS, TICKS, TO, TO_TELNET, UNTIL, VERBOSE,
 };
 use crate::arguments::settings::{Address, ServeWords};
@@ -79,6 +79,7 @@ pub(crate) fn serving(alloc: Global, words: &ArgMatches<'_>) -> Result<ServeWord
         dial: numbers.dial,
         proxied: words.get_flag(PROXIED),
         local: words.get_flag(LOCALLY),
+        line_clients: words.get_flag(LINE_CLIENTS),
         verbose: words.get_flag(VERBOSE),
         logfmt: choices.logfmt,
         metrics,

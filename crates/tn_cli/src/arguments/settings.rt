@@ -151,6 +151,8 @@ pub struct ServeWords {
     pub proxied: bool,
     /// Whether the client is asked to edit the lines.
     pub local: bool,
+    /// Whether a client without LINEMODE edits and echoes its lines itself.
+    pub line_clients: bool,
     /// Whether connections and the ends of their sessions are noted.
     pub verbose: bool,
     /// Whether notes are written in pairs (logfmt), and not as sentences.

@@ -40,53 +40,55 @@ const ASKED: &[(&str, &str)] = &[
         "Serve(ServeWords { hosts: [\"127.0.0.1\"], socket: Socket { port: 2323, handed: None }, \
          sessions: 8, per_host: None, count: Some(1), until: None, ticks: 0, line_limit: Limit { \
          bytes: 255 }, idle: None, longest: 0, drain: 5, dial: 10, proxied: false, local: false, \
-         verbose: false, logfmt: false, metrics: None, banner: None, to: None, line_end: Lf, \
-         ends_cut: false, sends_signals: false, to_telnet: false })",
+         line_clients: false, verbose: false, logfmt: false, metrics: None, banner: None, to: None, \
+         line_end: Lf, ends_cut: false, sends_signals: false, to_telnet: false })",
     ),
     (
         "tn serve --limit=64 --count 1000000 --ticks=1000 --host ::1 --line 4095 --idle 86400 --until \
-         /run/end --drain 86399 --dial 1 --proxy --per-host 2 --longest=3600 --local --verbose \
-         --notes logfmt --metrics /m --banner /b --port=2323 --to [::1]:7 --crlf --line-cut end \
+         /run/end --drain 86399 --dial 1 --proxy --per-host 2 --longest=3600 --local --line-clients \
+         --verbose --notes logfmt --metrics /m --banner /b --port=2323 --to [::1]:7 --crlf --line-cut end \
          --signals send --to-telnet",
-        "Serve(ServeWords { hosts: [\"::1\"], socket: Socket { port: 2323, handed: None }, sessions: \
-         64, per_host: Some(2), count: Some(1000000), until: Some(\"/run/end\"), ticks: 1000, \
-         line_limit: Limit { bytes: 4095 }, idle: Some(86400), longest: 3600, drain: 86399, dial: 1, \
-         proxied: true, local: true, verbose: true, logfmt: true, metrics: Some(\"/m\"), banner: \
-         Some(\"/b\"), to: Some(Address { host: \"::1\", port: 7 }), line_end: CrLf, ends_cut: true, \
-         sends_signals: true, to_telnet: true })",
+        "Serve(ServeWords { hosts: [\"::1\"], socket: Socket { port: 2323, handed: None }, \
+         sessions: 64, per_host: Some(2), count: Some(1000000), until: Some(\"/run/end\"), ticks: \
+         1000, line_limit: Limit { bytes: 4095 }, idle: Some(86400), longest: 3600, drain: 86399, \
+         dial: 1, proxied: true, local: true, line_clients: true, verbose: true, logfmt: true, \
+         metrics: Some(\"/m\"), banner: Some(\"/b\"), to: Some(Address { host: \"::1\", port: 7 }), \
+         line_end: CrLf, ends_cut: true, sends_signals: true, to_telnet: true })",
     ),
     (
         "tn serve --forever --host unix:/a --host=unix:b --cr --to unix:/s --line-cut=send --signals \
          act --notes text",
-        "Serve(ServeWords { hosts: [\"unix:/a\", \"unix:b\"], socket: Socket { port: 0, handed: None \
-         }, sessions: 8, per_host: None, count: None, until: None, ticks: 0, line_limit: Limit { \
-         bytes: 255 }, idle: None, longest: 0, drain: 5, dial: 10, proxied: false, local: false, \
-         verbose: false, logfmt: false, metrics: None, banner: None, to: Some(Address { host: \
-         \"unix:/s\", port: 0 }), line_end: Cr, ends_cut: false, sends_signals: false, to_telnet: false })",
+        "Serve(ServeWords { hosts: [\"unix:/a\", \"unix:b\"], socket: Socket { port: 0, handed: \
+         None }, sessions: 8, per_host: None, count: None, until: None, ticks: 0, line_limit: Limit \
+         { bytes: 255 }, idle: None, longest: 0, drain: 5, dial: 10, proxied: false, local: false, \
+         line_clients: false, verbose: false, logfmt: false, metrics: None, banner: None, to: \
+         Some(Address { host: \"unix:/s\", port: 0 }), line_end: Cr, ends_cut: false, \
+         sends_signals: false, to_telnet: false })",
     ),
     (
         "tn serve --port 2323 --host unix:/a --host localhost --per-host 0 --to h:65535",
-        "Serve(ServeWords { hosts: [\"unix:/a\", \"localhost\"], socket: Socket { port: 2323, handed: \
-         None }, sessions: 8, per_host: Some(0), count: Some(1), until: None, ticks: 0, line_limit: \
-         Limit { bytes: 255 }, idle: None, longest: 0, drain: 5, dial: 10, proxied: false, local: \
-         false, verbose: false, logfmt: false, metrics: None, banner: None, to: Some(Address { host: \
-         \"h\", port: 65535 }), line_end: Lf, ends_cut: false, sends_signals: false, to_telnet: false })",
+        "Serve(ServeWords { hosts: [\"unix:/a\", \"localhost\"], socket: Socket { port: 2323, \
+         handed: None }, sessions: 8, per_host: Some(0), count: Some(1), until: None, ticks: 0, \
+         line_limit: Limit { bytes: 255 }, idle: None, longest: 0, drain: 5, dial: 10, proxied: \
+         false, local: false, line_clients: false, verbose: false, logfmt: false, metrics: None, \
+         banner: None, to: Some(Address { host: \"h\", port: 65535 }), line_end: Lf, ends_cut: \
+         false, sends_signals: false, to_telnet: false })",
     ),
     (
         "tn serve --listen-fd 3 --forever",
         "Serve(ServeWords { hosts: [\"127.0.0.1\"], socket: Socket { port: 0, handed: Some(3) }, \
-         sessions: 8, per_host: None, count: None, until: None, ticks: 0, line_limit: Limit { bytes: \
-         255 }, idle: None, longest: 0, drain: 5, dial: 10, proxied: false, local: false, verbose: \
-         false, logfmt: false, metrics: None, banner: None, to: None, line_end: Lf, ends_cut: false, \
-         sends_signals: false, to_telnet: false })",
+         sessions: 8, per_host: None, count: None, until: None, ticks: 0, line_limit: Limit { \
+         bytes: 255 }, idle: None, longest: 0, drain: 5, dial: 10, proxied: false, local: false, \
+         line_clients: false, verbose: false, logfmt: false, metrics: None, banner: None, to: None, \
+         line_end: Lf, ends_cut: false, sends_signals: false, to_telnet: false })",
     ),
     (
         "tn serve --stdin",
         "Serve(ServeWords { hosts: [\"127.0.0.1\"], socket: Socket { port: 0, handed: Some(0) }, \
          sessions: 8, per_host: None, count: Some(1), until: None, ticks: 0, line_limit: Limit { \
          bytes: 255 }, idle: None, longest: 0, drain: 5, dial: 10, proxied: false, local: false, \
-         verbose: false, logfmt: false, metrics: None, banner: None, to: None, line_end: Lf, \
-         ends_cut: false, sends_signals: false, to_telnet: false })",
+         line_clients: false, verbose: false, logfmt: false, metrics: None, banner: None, to: None, \
+         line_end: Lf, ends_cut: false, sends_signals: false, to_telnet: false })",
     ),
     (
         "tn connect -p7 --width 65535 --height 0 --escape ^a -q 86400 -w 7 --timeout 5 -6 --bind ::1 \
