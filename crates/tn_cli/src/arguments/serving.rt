@@ -5,8 +5,9 @@ ghost use Rattle.tn_cli.specs.arguments.Ranges.{AreServeNumbersWithin, IsWithin,
 
 use crate::arguments::lacks::{Lack, NO_NUMBER, lacking, no_value};
 use crate::arguments::options::{
-    BANNER, COUNT, CR, CRLF, DIAL, DRAIN, FOREVER, IDLE, LIMIT, LINE, LINE_CLIENTS, LINE_CUT, LOCALLY, LONGEST,
-    METRICS, MOST_PATH, NOTES, PER_HOST, PROXIED, SIGNALS, TICKS, TO, TO_TELNET, UNTIL, VERBOSE,
+    BANNER, COUNT, CR, CRLF, DIAL, DRAIN, FOREVER, IDLE, LIMIT, LINE, LINE_CLIENTS, LINE_CUT,
+    LOCALLY, LONGEST, METRICS, MOST_PATH, NOTES, PER_HOST, PROXIED, SIGNALS, TICKS, TO, TO_TELNET,
+    UNTIL, VERBOSE,
 };
 use crate::arguments::settings::{Address, ServeWords};
 use crate::arguments::sockets::{hosts_of, socket_of};

@@ -122,11 +122,7 @@ struct Compared {
 }
 
 impl Compared {
-    fn start(
-        alloc: Global,
-        settings: Settings,
-        opening: Opening,
-    ) -> Result<Compared, ServerFault> {
+    fn start(alloc: Global, settings: Settings, opening: Opening) -> Result<Compared, ServerFault> {
         let mut sent = Vec::new(alloc);
         Ok(Compared {
             alloc,

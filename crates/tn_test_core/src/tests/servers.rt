@@ -46,7 +46,9 @@ impl Stage for Server {
     fn step(&mut self, words: Words<'_>, page: &mut Page) -> bool {
         match words.verb {
             "opening" => page.tell("sent", &mut self.sent),
-            "ignoring-returns" | "echoing-newlines" | "for-lines" => return self.start_anew(words.verb),
+            "ignoring-returns" | "echoing-newlines" | "for-lines" => return self.start_anew(
+                words.verb,
+            ),
             "write" => page.say(&self.end.write(&words.bytes(self.alloc))),
             "half" => page.bytes("half", self.end.half()),
             "mode" => page.say(&self.end.mode()),

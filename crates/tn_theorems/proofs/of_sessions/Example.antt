@@ -20,8 +20,7 @@ use Rattle.tn_theorems.specs.sessions.Transcripts.{Step, served, told, server_st
 use Rattle.tn_cores.specs.declared.faults.Ended.TheVariants as ended
 use Rattle.tn_nvt.specs.{Stream.{spelled, IsPartial}, declared.items.Item.{Item, TheVariants.Byte}, Prefixes.IsPrefixOf}
 use Rattle.tn_option.specs.{Options.{state_of, options_after_wish, new_options}, QMethod.cell}
-use Rattle.tn_server.specs.declared.openings.{Approach.Approach, Opening.TheVariants.Keys}
-use Rattle.tn_server.specs.declared.wishes.Editing.{Editing}
+use Rattle.tn_server.specs.declared.{openings.{Approach.Approach, Opening.TheVariants.Keys}, wishes.Editing.Editing}
 use Rattle.tn_session.proofs.lemmas.Sessions.{ServerTranscript, ClientTranscript, server_transcript, server_reads, server_noted, client_transcript}
 use Rattle.tn_session.proofs.lemmas.Sessions.{client_reads, client_noted}
 use Rattle.tn_session.specs.{Notes.{Note, Noted, no_notes, notes}, Transcripts.{exchange_of, Exchange, all_read, all_wrote}, CoreTurns.all_told}
