@@ -5,7 +5,6 @@ use std::alloc::Global;
 use std::io::Write;
 use std::time::Clock;
 use tn_discipline::{Limit, Settings};
-use tn_server::Opening;
 use tn_world::{Event, World, WorldFault};
 
 /// The number of lines that are typed in one world.
@@ -29,7 +28,7 @@ struct Travelling {
 impl Workload for Travelling {
     fn once(&mut self) -> Result<Done, Stuck> {
         let (settings, limit) = (Settings::standard(), Limit::standard());
-        let mut world = World::open(self.alloc, Opening::Keys, settings, 80, 24, limit)?;
+        let mut world = World::open(self.alloc, settings, 80, 24, limit)?;
         let done = travel(&mut world);
         drop(world);
         done
@@ -84,7 +83,7 @@ impl Lines {
 impl Workload for Lines {
     fn once(&mut self) -> Result<Done, Stuck> {
         let (settings, limit) = (Settings::standard(), Limit::standard());
-        let mut world = World::open(self.alloc, Opening::Keys, settings, 80, 24, limit)?;
+        let mut world = World::open(self.alloc, settings, 80, 24, limit)?;
         let done = type_lines(&mut world, &self.events);
         drop(world);
         done

@@ -71,7 +71,6 @@ fn play_lines(
 {
     match World::open(
         alloc,
-        Opening::Keys,
         Settings::standard(),
         USUAL_WIDTH,
         USUAL_HEIGHT,

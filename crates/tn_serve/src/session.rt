@@ -21,7 +21,7 @@ use tn_cores::streams::Source;
 use tn_discipline::Settings;
 use tn_net::{Attended, Connection, Host, Logged, Standing, WriteLog};
 use tn_server::Approach;
-use tn_session::{Maker, Ports, Report, SessionFault, serve_session};
+use tn_session::{Maker, Ports, Report, SessionFault, serve_session_with};
 
 /// A session that is to run over a connection that was accepted.
 #[derive(Drop)]
@@ -256,7 +256,7 @@ where
         editing: options.editing,
     };
     let limit = options.line_limit;
-    serve_session(
+    serve_session_with(
         rt, alloc, reader, writer, settings, limit, approach, jobs, gate,
     )
 }

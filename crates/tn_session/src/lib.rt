@@ -12,7 +12,7 @@ pub use crate::workers::{
 pub use client::client_session;
 pub use parties::{ClientPorts, Maker, Ports, Report, Unwatched};
 pub use roster::{Roster, RosterFault};
-pub use session::serve_session;
+pub use session::{serve_session, serve_session_with};
 pub use tn_cores::client::{Origin, Terms};
 pub use tn_cores::queue::{Hand, InTurn};
 pub use tn_cores::streams::Finish;

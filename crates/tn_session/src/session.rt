@@ -11,6 +11,7 @@ ghost use Rattle.tn_session.specs.{Notes.{no_notes, noted_of}, Turns.StaysInReac
 ghost use Rattle.tn_session.specs.Makers.{AreAll, GivesJobs, IsMakerFault, begins};
 ghost use Rattle.tn_cores.specs.{queue.Queue.{putter, taker}, streams.Known.{known_reader, known_writing}};
 ghost use Rattle.tn_cores.specs.{streams.Sending.{StaysOpen, IsFinished}, server.Welcoming.too_far_ahead};
+ghost use Rattle.tn_server.specs.declared.openings.Opening.TheVariants.{Keys};
 
 use crate::credit::{CREDITS, make_step_credits};
 use crate::joining::settle;
@@ -39,7 +40,7 @@ use tn_cores::streams::{Finish, Source};
 use tn_cores::{Gate, Place, SessionFault};
 use tn_discipline::{Entry, Limit, Settings};
 use tn_jobs::{Job, JobId};
-use tn_server::Approach;
+use tn_server::{Approach, Editing};
 
 /// The most messages that the mailbox holds.
 pub(crate) const MAILS: usize = 64;
@@ -515,6 +516,45 @@ where
 /// - `Start`: a thread cannot be started, or the maker has no first job.
 /// - `Channel`: the other end of a channel is gone.
 pub fn serve_session<R, Rd, W, M, G>(
+    rt: R,
+    alloc: Global,
+    reader: Rd,
+    writer: &mut W,
+    settings: Settings,
+    limit: Limit,
+    editing: Editing,
+    maker: M,
+    gate: Arc<G, Global>,
+) -> Result<(Report, Ports), SessionFault>
+where
+    R: Threads + Wait + Copy + Send + 'static,
+    Rd: Source + Drop + Send + 'static,
+    W: Finish,
+    M: Maker + Drop,
+    M::Job: Send + 'static,
+    G: Gate + Drop + Send + Sync + 'static,
+    ensures fault { IfErr result IsRefusal }
+    ensures none { M.left maker ≡ Some 0 → IsErrOf result SessionFault.Start }
+    ensures ran { IfOk result (λ r.
+        RunningSession (job_facts (begins M.Job.fresh M.gives maker) M.Job.reacts M.Job.steps M.Job.refuses)
+        (M.left maker)
+        (record {
+          canon = record { settings = settings; limit = limit };
+          approach = record { opening = Keys; editing = editing };
+        })
+        (known_reader Rd.remaining Rd.foretold Rd.sizes Rd.words reader)
+        (known_writing W.contents W.told writer.old writer.new) (session_result r.0 r.1)) }
+    ensures in_reach { IfOk result (λ r. r.0.ended ≢ too_far_ahead) }
+    ensures finished { IfOk result (λ r. IsFinished (W.sending writer.old) (W.sending writer.new)) }
+{
+    let approach = Approach::for_keys(editing);
+    serve_session_with(
+        rt, alloc, reader, writer, settings, limit, approach, maker, gate,
+    )
+}
+
+/// Runs a session as `serve_session` does, and with its errors, by this approach to the client.
+pub fn serve_session_with<R, Rd, W, M, G>(
     rt: R,
     alloc: Global,
     reader: Rd,

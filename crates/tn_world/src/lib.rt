@@ -4,7 +4,7 @@
 //! Begin with `World`, and `Event`, which is what may happen in one.
 //!
 //! ```
-//! let mut world = World::open(alloc, opening, Settings::standard(), 80, 24, limit)?;
+//! let mut world = World::open(alloc, Settings::standard(), 80, 24, Limit::standard())?;
 //! world.settle()?; // all that is in flight arrives, until nothing is in flight
 //! if world.mark() {
 //!     world.run(&[Event::Key(0x61), Event::Key(0x0d), Event::ToServer(3), Event::Take])?;

@@ -3,6 +3,7 @@
 ghost use Rattle.std.specs.Prelude.{◌≡◌, ◌↔◌, true, IsTrue, false, IsFalse, [], ◌++◌, IfOk, IfErr, OnOk};
 ghost use Rattle.std.specs.Prelude.{OnErr, option_copied, slice_get};
 ghost use Rattle.tn_discipline.specs.Characters.{standard_characters};
+ghost use Rattle.tn_server.specs.declared.openings.Opening.TheVariants.{Keys};
 ghost use Rattle.tn_world.specs.{Headline.{IsSettled, Follows}, Output.IsOutput, Worlds.canon_of};
 ghost use Rattle.tn_world.specs.Opened.{IsOpened, IsOpenFault, with_new_lists};
 ghost use Rattle.tn_world.specs.declared.events.ToWhom.TheVariants as to;
@@ -68,14 +69,32 @@ impl Model for World {
 }
 
 impl World {
-    /// Opens a world: both ends are started, the server with this opening, the client's window with
-    /// this width and height in characters, lines at both with at most `limit` bytes, and the
-    /// server's opening messages are in flight.
+    /// Opens a world: both ends are started, the client's window with this width and height in
+    /// characters, lines at both with at most `limit` bytes, and the server's opening messages are
+    /// in flight.
     ///
     /// # Errors
     ///
     /// - There is no memory; the fault is that of the end or of the world that lacks it.
     pub fn open(
+        alloc: Global,
+        settings: Settings,
+        width: u16,
+        height: u16,
+        limit: Limit,
+    ) -> Result<World, WorldFault>
+        ensures opened { IfOk result (λ world.
+            IsOpened Keys (record { settings = settings; limit = limit }) width height world) }
+        ensures follows { IfOk result (λ world. settings.chars ≡ standard_characters →
+            Follows (record { settings = settings; limit = limit }) world) }
+        ensures fault { IfErr result (λ fault. IsOpenFault fault) }
+        ensures output { IfOk result (λ world. IsOutput world []) }
+    {
+        World::open_with(alloc, Opening::Keys, settings, width, height, limit)
+    }
+
+    /// Opens a world as `open` does, and with its errors, whose server has this opening.
+    pub fn open_with(
         alloc: Global,
         opening: Opening,
         settings: Settings,

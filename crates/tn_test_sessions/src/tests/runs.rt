@@ -5,7 +5,7 @@ use std::sync::{Arc, Wait};
 use std::thread::Threads;
 use tn_cores::streams::{Drain, Source};
 use tn_discipline::{Limit, Settings};
-use tn_server::{Approach, Editing};
+use tn_server::Editing;
 use tn_session::{Finish, Gate, Maker, Report, SessionFault, client_session, serve_session};
 
 /// Runs a server's session, and returns its report.
@@ -31,9 +31,8 @@ where
         return Err(SessionFault::Memory);
     };
     let limit = Limit::standard();
-    let approach = Approach::for_keys(editing);
     match serve_session(
-        rt, alloc, reader, writer, settings, limit, approach, maker, gate,
+        rt, alloc, reader, writer, settings, limit, editing, maker, gate,
     ) {
         Ok((report, _ports)) => Ok(report),
         Err(fault) => Err(fault),

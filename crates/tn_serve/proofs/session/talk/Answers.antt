@@ -31,8 +31,8 @@ returns-clause-ran g c =
     let standard = standard_is c.standard-settings.result c.standard-settings.ensures.flags c.standard-settings.ensures.chars in
     let facts = job_facts (begins g.M.Job.Job.fresh g.M.Maker.gives c.args.jobs) g.M.Job.Job.reacts g.M.Job.Job.steps g.M.Job.Job.refuses in
     let left = g.M.Maker.left c.args.jobs in
-    IfOk-weaker c.serve_session.result _
-    (λ r. RunsWriting facts left c.args.options c.serve_session.new.writer.log (session_result r.0 r.1))
+    IfOk-weaker c.serve_session_with.result _
+    (λ r. RunsWriting facts left c.args.options c.serve_session_with.new.writer.log (session_result r.0 r.1))
     (λ r ran. as_asked facts left c.args.options (session_result r.0 r.1) c.standard-settings.result (logged c.args.writer.now.log)
-    (logged c.serve_session.new.writer.log) standard c.requires.new ran)
-    c.serve_session.ensures.ran
+    (logged c.serve_session_with.new.writer.log) standard c.requires.new ran)
+    c.serve_session_with.ensures.ran

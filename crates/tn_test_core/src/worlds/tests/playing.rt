@@ -22,7 +22,7 @@ pub(super) fn open_with(
     settings: Settings,
     limit: Limit,
 ) -> Result<Box<World>, WorldFault> {
-    match World::open(alloc, opening, settings, 80, 24, limit) {
+    match World::open_with(alloc, opening, settings, 80, 24, limit) {
         Ok(world) => boxed(alloc, world),
         Err(fault) => Err(fault),
     }

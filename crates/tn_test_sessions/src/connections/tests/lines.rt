@@ -16,7 +16,7 @@ use tn_connect::Host;
 use tn_discipline::{Entry, Limit, Settings, Sig, Text};
 use tn_jobs::{After, Job, Reaction};
 use tn_program::Network;
-use tn_server::{Approach, Editing};
+use tn_server::Editing;
 use tn_session::{Ended, Finish, Maker, Unwatched, serve_session};
 use tn_test_core::models::random::Random;
 
@@ -175,7 +175,7 @@ fn serve<R: Threads + Wait + Copy + Send + 'static>(
         &mut writer,
         settings,
         limit,
-        Approach::for_keys(editing),
+        editing,
         maker,
         gate,
     ) {

@@ -15,7 +15,7 @@ use tn_connect::Host;
 use tn_discipline::{Limit, Settings};
 use tn_serve::services::Answerers;
 use tn_server::{Approach, Editing, Opening};
-use tn_session::{Ended, Finish, Unwatched, client_session, serve_session};
+use tn_session::{Ended, Finish, Unwatched, client_session, serve_session_with};
 
 /// The bytes that went one way, and how much of them was read.
 #[derive(Drop)]
@@ -140,7 +140,7 @@ fn serve<R: Threads + Wait + Copy + Send + 'static>(
     let gate = Arc::new(alloc, Unwatched).ok()?;
     let (settings, limit) = (Settings::standard(), Limit::standard());
     let jobs = Answerers::new(0);
-    let (report, _ports) = serve_session(
+    let (report, _ports) = serve_session_with(
         rt,
         alloc,
         reader,

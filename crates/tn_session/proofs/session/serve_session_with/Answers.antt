@@ -7,7 +7,7 @@ use Rattle.tn_cores.specs.declared.faults.SessionFault.TheVariants as fault
 use Rattle.tn_session.specs.declared.parties.Report.{Report}
 use Rattle.tn_session.proofs.{Ending.{may_come, all_pieces, came_by_net, heard_of_reader, took_all, takes_entries, read_cause, write_cause}, Reach.never_begun}
 use Rattle.tn_session.proofs.{Makers.{all_fresh, some_are, no_first}, lemmas.Sessions.{server_said, server_reads, as_read}}
-use Rattle.tn_session.proofs.session.serve_session.Goals as goal
+use Rattle.tn_session.proofs.session.serve_session_with.Goals as goal
 
 pub returns-clause-ran : goal.returns-clause-ran
 returns-clause-ran g c = IfOk-weaker c.run_begun.result _ _ (λ r ran.

@@ -2,7 +2,7 @@ use Rattle.std.proofs.Common.{ap, ◌∙◌, ◌++◌}
 use Rattle.tn_nvt.specs.Spelling.{spells}
 use Rattle.tn_server.specs.Replies.{opening}
 use Rattle.tn_world.proofs.{Bodies.{open_sound, opened_world}, Promise.just_opened, Showing.opened_output}
-use Rattle.tn_world.proofs.world.World.open.Goals as goal
+use Rattle.tn_world.proofs.world.World.open_with.Goals as goal
 
 pub invariant_of-result : goal.invariant_of-result
 invariant_of-result c =
