@@ -294,8 +294,8 @@ class Decoder(_Held):
 class _End(_Edited):
     """The parts that both ends share."""
 
-    def __init__(self, *arguments):
-        super().__init__(*arguments)
+    def __init__(self, *arguments, call="start"):
+        super().__init__(*arguments, call=call)
         self._items = []  # items of owned options that were taken, to make room for others
 
     def feed(self, piece):

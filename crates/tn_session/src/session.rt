@@ -40,7 +40,7 @@ use tn_cores::streams::{Finish, Source};
 use tn_cores::{Gate, Place, SessionFault};
 use tn_discipline::{Entry, Limit, Settings};
 use tn_jobs::{Job, JobId};
-use tn_server::{Approach, Editing};
+use tn_server::{Approach, Editing, Opening};
 
 /// The most messages that the mailbox holds.
 pub(crate) const MAILS: usize = 64;
@@ -547,7 +547,10 @@ where
     ensures in_reach { IfOk result (λ r. r.0.ended ≢ too_far_ahead) }
     ensures finished { IfOk result (λ r. IsFinished (W.sending writer.old) (W.sending writer.new)) }
 {
-    let approach = Approach::for_keys(editing);
+    let approach = Approach {
+        opening: Opening::Keys,
+        editing,
+    };
     serve_session_with(
         rt, alloc, reader, writer, settings, limit, approach, maker, gate,
     )
