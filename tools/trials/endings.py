@@ -130,14 +130,14 @@ def a_session_without_a_service_ends_with_its_input(world):
     expect(fastest < 1.5, f"wanted an end at once, and the fastest of five took {fastest:.1f} s")
 
 
-@case(seconds=300, each={name: (name,) for name in ("HUP", "WINCH", "USR1")})
-def a_program_that_ends_as_a_signal_comes_is_not_waited_for(world, name):
+@case(seconds=300, each={name: (name, "connect", "host", "1") for name in ("HUP", "WINCH", "USR1")} | {"TERM": ("TERM", "serve", "-p", "1")})
+def a_program_that_ends_as_a_signal_comes_is_not_waited_for(world, name, *words):
     """The shell of the launcher then forgets how the program ended, in one of some twenty times."""
     program = world.path("program")
     with open(program, "w", encoding="ascii", opener=lambda path, flags: os.open(path, flags, 0o755)) as file:
         file.write(f"#!/bin/sh\nkill -{name} $PPID\n")
     for _ in range(80):
-        console = Console(world, world.launcher, program, "connect", "host", "1", HOME=world.folder)
+        console = Console(world, world.launcher, program, *words, HOME=world.folder)
         status_of(console.process, "the launcher")
         console.hang_up()
         os.close(console.slave)

@@ -164,7 +164,7 @@ impl<W: Write> Drain for W {
         self.write(buf)
     }
 
-    // After a flush that fails, a write fails too.
+    // The fault of a flush is not reported here: a screen whose flush fails ends its connection.
     fn pass_on(&mut self) {
         let _ = self.flush();
     }

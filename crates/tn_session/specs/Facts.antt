@@ -28,7 +28,7 @@ pub record SessionJobs (J : Type 0) : Type 0 where
   pub queue : List (Runner J)
   pub tostop : Bool
 
--- the terminal's settings with its limit, and the side that edits
+-- the terminal's settings with its limit, and the approach to the client
 pub record TermSettings : Type 0 where
   pub canon : Canon
   pub approach : Approach

@@ -10,8 +10,8 @@ use Rattle.tn_client.specs.declared.faults.ClientFault.TheVariants as client_fau
 use Rattle.tn_world.specs.{Worlds.World, declared.faults.WorldFault.WorldFault}
 use Rattle.tn_world.specs.declared.faults.Cause.TheVariants as cause
 
--- Both ends are where they start, the server by this opening, with lines of the same limit, and have read nothing; the terminal takes
--- keys, and the opening messages are in flight.
+-- Both ends have started, the server with this opening, and have read nothing. Their lines have one limit, the
+-- terminal takes keys, and the opening messages are in flight.
 pub record IsOpened (o : Opening) (canon : Canon) (width height : ℕ) (w : World) : Type 0 where
   pub server : server_courses.CourseLeadsTo (server_courses.started o canon) w.server
   pub client : client_courses.CourseLeadsTo (client_courses.started width height canon.limit) w.client

@@ -33,7 +33,7 @@ opening_pair o =
       to_there = words_in (opening o);
     }
 
--- both engines are where a talk leads that began with the opening messages of either opening
+-- a talk that began with the messages of either opening leads to both engines
 pub record HasTalked (e : EnginePair) : Type 0 where
   pub opening : Opening
   pub talk : TalkTo (opening_pair opening) e
@@ -50,9 +50,8 @@ WishesNothing _ = Unit {0}
 
 -- The past of a world, after any events since it was opened. Some history leads to the server; as long as an
 -- end has not failed, some pieces and calls lead to it, and what flies to it are whole items; both ends have
--- lines of one limit. The terminal of a server that has not failed takes keys. While neither has failed, both
--- engines are where a talk leads that began with the opening messages (RFC 1143), and the client requests no
--- mode.
+-- lines of one limit. The terminal of a server that has not failed takes keys. While neither has failed, a talk
+-- that began with the opening messages leads to both engines (RFC 1143), and the client requests no mode.
 pub record HasPast (w : World) : Type 0 where
   pub history : server_calls.History
   pub server : server.LeadsTo history w.server
