@@ -1,6 +1,5 @@
 //! The tests.
 
-mod cores;
 mod endless;
 mod gates;
 mod makers;
@@ -10,4 +9,3 @@ mod refusals;
 mod runs;
 mod sessions;
 mod sizes;
-mod terminals;
