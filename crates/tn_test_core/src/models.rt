@@ -1,14 +1,9 @@
-//! The definitions again, as plain programs that compute each result from the whole past; the page that a test's
-//! script prints, and pseudorandom numbers. The tests compare the product with
-//! them. They are slow, keep everything, and lose what they have no memory for. Only their safety and
-//! termination are proved, so nothing may rest on them.
+//! The canonical terminal again, as a plain program that computes each result from all keys; the page
+//! that a test's script prints, and pseudorandom numbers. The tests compare the product with this
+//! terminal. It is slow, keeps everything, and loses what it has no memory for. Only its safety and
+//! termination are proved, so nothing may rest on it.
 
 pub mod canonical;
-pub mod characters;
-pub mod decode;
-pub mod options;
 pub mod page;
-pub mod payloads;
 pub mod random;
-pub mod streams;
 pub mod terminal;

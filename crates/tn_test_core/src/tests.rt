@@ -7,8 +7,6 @@ use std::process::Abort;
 
 mod characters;
 mod clients;
-mod codes;
-mod decode;
 mod editors;
 mod faults;
 mod hostile;
@@ -17,14 +15,10 @@ mod linemode;
 mod lines;
 mod options;
 mod pairs;
+mod payloads;
 mod random_clients;
-mod random_edited;
-mod random_lines;
 mod random_pairs;
-mod random_payloads;
 mod random_servers;
-mod random_service_lines;
-mod random_streams;
 mod servers;
 mod streams;
 

@@ -1,20 +1,27 @@
 //! A client end, from all that came, all keys and all sizes.
 
+use crate::model::{say_list, say_sub, triples_of};
 use crate::models::canonical::{half, role_of};
-use crate::models::characters::{Table, asked, told};
-use crate::models::options::{Options, meaning};
-use crate::models::streams::{Stream, say_byte, say_sub};
 use std::alloc::Global;
 use tn_codes::Verb;
-use tn_discipline::{Flags, Role, Settings, Sig};
-use tn_nvt::Item;
+use tn_discipline::{Role, Settings, Sig};
+use tn_linemode::{ClientTable, put_word};
+use tn_nvt::{Decoder, Item, put_byte};
+use tn_option::{Agree, ECHO, Engine, LINEMODE, NAWS, Side};
+
+/// A client agrees to all options but ECHO on its own side, and to ECHO and SUPPRESS-GO-AHEAD on
+/// the server's.
+const AGREED: Agree = Agree {
+    us: [false, true, true, true],
+    them: [true, true, false, false],
+};
 
 #[derive(Drop)]
 pub(crate) struct Client {
     alloc: Global,
-    stream: Stream,
-    options: Options,
-    pub(crate) table: Table,
+    decoder: Decoder,
+    options: Engine,
+    table: ClientTable,
     pub(crate) mode: u8,
     size: (u16, u16),
     mask: Vec<u8>,
@@ -32,9 +39,9 @@ impl Client {
     pub(crate) fn new(alloc: Global, size: (u16, u16)) -> Client {
         Client {
             alloc,
-            stream: Stream::new(alloc),
-            options: Options::new([false, true, true, true], [true, true, false, false]),
-            table: Table::standard(),
+            decoder: Decoder::new(alloc),
+            options: Engine::new(AGREED),
+            table: ClientTable::new(),
             mode: 0,
             size,
             mask: Vec::new(alloc),
@@ -48,8 +55,9 @@ impl Client {
     }
 
     pub(crate) fn feed(&mut self, piece: &[u8]) {
-        let (items, before) = self.stream.feed(piece);
-        for item in items.iter().skip(before) {
+        let mut items = Vec::new(self.alloc);
+        let _refused = self.decoder.feed(piece, &mut items);
+        for item in &items {
             self.got(item);
         }
     }
@@ -59,7 +67,7 @@ impl Client {
             Item::Byte(byte) => self.show(&[*byte]),
             Item::Newline => self.show(b"\r\n"),
             Item::Neg(verb, option) => self.heard(*verb, *option),
-            Item::Sub(34, params) if self.options.is_on(true, 34) => self.told_by(
+            Item::Sub(34, params) if self.options.is_on(Side::Us, LINEMODE) => self.told_by(
                 params.as_slice(),
             ),
             Item::Sub(..) | Item::Cmd(_) => {},
@@ -75,14 +83,14 @@ impl Client {
     }
 
     fn heard(&mut self, verb: Verb, option: u8) {
-        let (ours, on) = meaning(verb);
-        let had_size = self.options.is_on(true, 31);
-        if ours && option == 34 && !on {
+        let had_size = self.options.is_on(Side::Us, NAWS);
+        if verb == Verb::DontIt && option == LINEMODE {
             self.leave(0);
             self.mask.clear();
         }
-        self.options.hear(ours, on, option, &mut self.sent);
-        if !had_size && self.options.is_on(true, 31) {
+        let answer = self.options.got(verb, option);
+        let _refused = put_word(answer, &mut self.sent);
+        if !had_size && self.options.is_on(Side::Us, NAWS) {
             self.say_size();
         }
     }
@@ -147,7 +155,7 @@ impl Client {
     pub(crate) fn resize(&mut self, width: u16, height: u16) {
         let is_new = self.size != (width, height);
         self.size = (width, height);
-        if is_new && self.options.is_on(true, 31) {
+        if is_new && self.options.is_on(Side::Us, NAWS) {
             self.say_size();
         }
     }
@@ -181,64 +189,33 @@ impl Client {
 
     fn listed(&mut self, list: &[u8]) {
         let mut answers = Vec::new(self.alloc);
-        let _refused = answers.push(3);
-        for triple in list.chunks(3) {
-            self.answer(triple, &mut answers);
-        }
-        if answers.len() > 1 {
-            say_sub(34, &answers, &mut self.sent);
-        }
-    }
-
-    // An acknowledgement is not answered.
-    fn answer(&mut self, triple: &[u8], answers: &mut Vec<u8>) {
-        let [func, modifier, value] = triple else {
-            return;
-        };
-        let answer = self.offered(*func, *modifier & 3, *value);
-        if let Some(answer) = answer
-            && *modifier & 128 == 0
-        {
-            let _refused = answers.extend_from_slice(&answer);
-        }
-    }
-
-    // Takes a triple, and returns the answer to it if it is no acknowledgement.
-    fn offered(&mut self, func: u8, level: u8, value: u8) -> Option<[u8; 3]> {
-        let Some(present) = self.table.get(func) else {
-            return (func != 0 && level != 0).then_some([func, 0, 0]);
-        };
-        let plain = asked(func, level, value);
-        if plain == Some(10) || plain == Some(13) {
-            return None;
-        }
-        self.table.put_alone(func, plain);
-        let [func, modifier, value] = told(func, plain);
-        (plain != present).then_some([func, modifier | 128, value])
+        let triples = triples_of(self.alloc, list);
+        let _refused = self.table.got(&triples, &mut answers);
+        say_list(self.alloc, &answers, &mut self.sent);
     }
 }
 
 // The keys (POSIX.1-2017, XBD 11; RFC 1184, section 2).
 impl Client {
-    // The server's terminal as the client knows it.
-    fn flags(&self) -> Flags {
-        let mut flags = Settings::standard().flags;
-        flags.isig = self.mode & 2 != 0;
-        flags
+    // The server's terminal as the client knows it, with this ISIG.
+    fn settings(&self, isig: bool) -> Settings {
+        let mut settings = Settings::standard();
+        settings.flags.isig = isig;
+        settings.chars = self.table.chars();
+        settings
     }
 
     // Keeps a key that the server edits.
     fn keep(&mut self, key: u8) {
-        let mut flags = Settings::standard().flags;
-        let trapping = role_of(&flags, &self.table, key);
-        flags.isig = false;
-        let plain = role_of(&flags, &self.table, key);
+        let trapping = role_of(&self.settings(true), key);
+        let plain = role_of(&self.settings(false), key);
         let _refused = self.trapping.push(trapping);
         let _refused = self.plain.push(plain);
     }
 
     pub(crate) fn key(&mut self, key: u8) {
-        let role = role_of(&self.flags(), &self.table, key);
+        let settings = self.settings(self.mode & 2 != 0);
+        let role = role_of(&settings, key);
         if self.edits() {
             self.edit(role);
         } else {
@@ -295,7 +272,7 @@ impl Client {
 
     fn show_key(&mut self, key: u8) {
         match key {
-            _ if self.options.is_on(false, 1) => {},
+            _ if self.options.is_on(Side::Them, ECHO) => {},
             10 | 13 => self.show(b"\r\n"),
             _ => self.show(&[key]),
         }
@@ -311,10 +288,7 @@ impl Client {
     }
 
     fn send_byte(&mut self, byte: u8) {
-        say_byte(byte, &mut self.sent);
-        if byte == 13 {
-            let _refused = self.sent.push(0);
-        }
+        let _refused = put_byte(byte, &mut self.sent);
     }
 
     fn send_edited(&mut self, role: Role) {
@@ -342,7 +316,7 @@ impl Client {
 
     // Shows the echo of a key that is about to join the roles, if the server has none.
     fn echo(&mut self, role: Role) {
-        if self.options.is_on(false, 1) {
+        if self.options.is_on(Side::Them, ECHO) {
             return;
         }
         let counted = self.half().len();

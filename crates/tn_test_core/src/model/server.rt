@@ -1,20 +1,27 @@
 //! A server end, from all that came and all calls.
 
-use crate::models::characters::{Table, asked, told};
-use crate::models::options::{Cause, Options, meaning};
-use crate::models::streams::{Stream, say_byte, say_sub};
+use crate::model::{say_list, say_sub, triples_of};
 use crate::models::terminal::Terminal;
 use std::alloc::Global;
-use tn_codes::{Command, Verb};
+use tn_codes::{Command, Func, Verb};
 use tn_discipline::{CharFault, Role, Settings, Sig, Symbol};
-use tn_nvt::Item;
+use tn_linemode::{ServerTable, put_word, triple_of};
+use tn_nvt::{Decoder, Item, put_byte, put_cmd, put_newline};
+use tn_option::{Agree, ECHO, Engine, LINEMODE, NAWS, SUPPRESS_GO_AHEAD, Side};
 use tn_server::{Editing, Opening};
+
+/// A server agrees to ECHO and SUPPRESS-GO-AHEAD on its own side, and to all options but ECHO on the
+/// client's.
+const AGREED: Agree = Agree {
+    us: [true, true, false, false],
+    them: [false, true, true, true],
+};
 
 #[derive(Drop)]
 pub(crate) struct Server {
     alloc: Global,
-    stream: Stream,
-    options: Options,
+    decoder: Decoder,
+    options: Engine,
     pub(crate) terminal: Terminal,
     wish: u8,
     asked: u8,
@@ -29,8 +36,8 @@ impl Server {
     pub(crate) fn new(alloc: Global, settings: &Settings, opening: Opening) -> Server {
         let mut server = Server {
             alloc,
-            stream: Stream::new(alloc),
-            options: Options::new([true, true, false, false], [false, true, true, true]),
+            decoder: Decoder::new(alloc),
+            options: Engine::new(AGREED),
             terminal: Terminal::new(alloc, settings),
             wish: 0,
             asked: 0,
@@ -40,19 +47,20 @@ impl Server {
             opens_lines: opening == Opening::Lines,
             sent: Vec::new(alloc),
         };
-        server.wish_option(false, 34, true);
-        server.wish_option(false, 31, true);
+        server.wish_option(Side::Them, LINEMODE, true);
+        server.wish_option(Side::Them, NAWS, true);
         if opening == Opening::Keys {
-            for (ours, option) in [(true, 3), (false, 3), (true, 1)] {
-                server.wish_option(ours, option, true);
-            }
+            server.wish_option(Side::Us, SUPPRESS_GO_AHEAD, true);
+            server.wish_option(Side::Them, SUPPRESS_GO_AHEAD, true);
+            server.wish_option(Side::Us, ECHO, true);
         }
         server
     }
 
     pub(crate) fn feed(&mut self, piece: &[u8]) {
-        let (items, before) = self.stream.feed(piece);
-        for item in items.iter().skip(before) {
+        let mut items = Vec::new(self.alloc);
+        let _refused = self.decoder.feed(piece, &mut items);
+        for item in &items {
             self.got(item);
         }
     }
@@ -71,7 +79,8 @@ impl Server {
         if self.mode & 1 != 0 {
             self.terminal.edited_byte(byte);
         } else {
-            self.terminal.raw_key(byte, self.options.is_on(true, 1));
+            self.terminal
+                .raw_key(byte, self.options.is_on(Side::Us, ECHO));
         }
     }
 
@@ -102,18 +111,18 @@ fn role_of_command(command: Command) -> Role {
 // The options, and what LINEMODE begins with.
 impl Server {
     fn has_linemode(&self) -> bool {
-        self.options.is_on(false, 34)
+        self.options.is_on(Side::Them, LINEMODE)
     }
 
-    fn wish_option(&mut self, ours: bool, option: u8, on: bool) {
-        let cause = if on { Cause::OnWish } else { Cause::OffWish };
-        let _known = self.options.turn(ours, option, cause, &mut self.sent);
+    fn wish_option(&mut self, side: Side, option: u8, on: bool) {
+        let asked = self.options.ask(side, option, on).unwrap_or(None);
+        let _refused = put_word(asked, &mut self.sent);
     }
 
     fn heard(&mut self, verb: Verb, option: u8) {
-        let (ours, on) = meaning(verb);
         let was_on = self.has_linemode();
-        self.options.hear(ours, on, option, &mut self.sent);
+        let answer = self.options.got(verb, option);
+        let _refused = put_word(answer, &mut self.sent);
         if self.has_linemode() != was_on {
             self.asked = 0;
             self.mode = 0;
@@ -135,8 +144,8 @@ impl Server {
         } else {
             self.opens_lines
         };
-        let wanted = !edits || !self.terminal.flags.echo;
-        self.wish_option(true, 1, wanted);
+        let wanted = !edits || !self.terminal.settings.flags.echo;
+        self.wish_option(Side::Us, ECHO, wanted);
     }
 
     // Returns whether a mode was sent.
@@ -150,19 +159,17 @@ impl Server {
     }
 
     fn say_table(&mut self) {
-        let mut params = Vec::new(self.alloc);
-        let _refused = params.push(3);
-        for (func, value) in self.terminal.table.rows {
-            let _refused = params.extend_from_slice(&told(func, value));
-        }
-        say_sub(34, &params, &mut self.sent);
+        let mut triples = Vec::new(self.alloc);
+        let table = ServerTable::new(self.terminal.settings.chars);
+        let _refused = table.announce(&mut triples);
+        say_list(self.alloc, &triples, &mut self.sent);
     }
 }
 
 // The server's part in LINEMODE and NAWS (RFC 1184, RFC 1073).
 impl Server {
     fn told_by(&mut self, option: u8, params: &[u8]) {
-        if !self.options.is_on(false, option) {
+        if !self.options.is_on(Side::Them, option) {
             return;
         }
         match (option, params) {
@@ -188,67 +195,21 @@ impl Server {
 
     fn listed(&mut self, list: &[u8]) {
         let mut answers = Vec::new(self.alloc);
-        let mut is_asked = false;
-        let _refused = answers.push(3);
-        for triple in list.chunks(3) {
-            is_asked |= self.answer(triple, &mut answers);
-        }
-        if answers.len() > 1 {
-            say_sub(34, &answers, &mut self.sent);
-        }
-        if is_asked {
+        let triples = triples_of(self.alloc, list);
+        let mut table = ServerTable::new(self.terminal.settings.chars);
+        let got = table.got(&triples, &mut answers);
+        self.terminal.settings.chars = table.chars();
+        say_list(self.alloc, &answers, &mut self.sent);
+        if got.unwrap_or(false) {
             self.say_table();
         }
-    }
-
-    // An acknowledgement is not answered. Returns whether the table is asked for.
-    fn answer(&mut self, triple: &[u8], answers: &mut Vec<u8>) -> bool {
-        let [func, modifier, value] = triple else {
-            return false;
-        };
-        if *modifier & 128 != 0 {
-            return false;
-        }
-        let is_asked = self.asks_for_table(*func, *modifier & 3, *value);
-        if let Some(answer) = self.offered(*func, *modifier & 3, *value) {
-            let _refused = answers.extend_from_slice(&answer);
-        }
-        is_asked
-    }
-
-    fn asks_for_table(&mut self, func: u8, level: u8, value: u8) -> bool {
-        match (func, level, value) {
-            (0, 3, 0) => {
-                self.terminal.table = Table::standard();
-                true
-            },
-            (0, 2, 0) => true,
-            _ => false,
-        }
-    }
-
-    // A triple, and its answer.
-    fn offered(&mut self, func: u8, level: u8, value: u8) -> Option<[u8; 3]> {
-        let Some(present) = self.terminal.table.get(func) else {
-            return (func != 0 && level != 0).then_some([func, 0, 0]);
-        };
-        let plain = asked(func, level, value);
-        if plain == present {
-            return None;
-        }
-        if self.terminal.table.refusal(func, plain).is_some() {
-            return Some(told(func, present));
-        }
-        self.terminal.table.put(func, plain);
-        let [func, modifier, value] = told(func, plain);
-        Some([func, modifier | 128, value])
     }
 }
 
 // The calls.
 impl Server {
     pub(crate) fn wish(&mut self, editing: Editing) -> bool {
-        let flags = self.terminal.flags;
+        let flags = self.terminal.settings.flags;
         if editing == Editing::Local && (!flags.icrnl || flags.inlcr || flags.igncr) {
             return false;
         }
@@ -264,31 +225,35 @@ impl Server {
         is_sent
     }
 
-    pub(crate) fn set_char(&mut self, func: u8, value: Option<u8>) -> Option<CharFault> {
-        let refusal = self.terminal.table.refusal(func, value);
-        if refusal.is_none() && self.terminal.table.get(func) != Some(value) {
-            self.terminal.table.put(func, value);
-            if self.has_linemode() {
-                let [func, modifier, value] = told(func, value);
-                say_sub(34, &[3, func, modifier, value], &mut self.sent);
-            }
+    pub(crate) fn set_char(&mut self, func: Func, value: Option<u8>) -> Option<CharFault> {
+        let mut chars = self.terminal.settings.chars;
+        let set = chars.set(func, value);
+        if chars != self.terminal.settings.chars {
+            self.terminal.settings.chars = chars;
+            self.say_char(func, value);
         }
-        refusal
+        set.err()
+    }
+
+    fn say_char(&mut self, func: Func, value: Option<u8>) {
+        if self.has_linemode() {
+            let triples = [triple_of(func, value)];
+            say_list(self.alloc, &triples, &mut self.sent);
+        }
     }
 
     pub(crate) fn set_echo(&mut self, on: bool) {
-        self.terminal.flags.echo = on;
+        self.terminal.settings.flags.echo = on;
         self.ask_echo();
     }
 
     pub(crate) fn pull(&mut self, most: usize) -> usize {
         let symbols = self.terminal.pull(most);
         for symbol in &symbols {
-            match symbol {
-                Symbol::Newline => say_pair([13, 10], &mut self.sent),
-                Symbol::Byte(13) => say_pair([13, 0], &mut self.sent),
-                Symbol::Byte(byte) => say_byte(*byte, &mut self.sent),
-            }
+            let _refused = match symbol {
+                Symbol::Newline => put_newline(&mut self.sent),
+                Symbol::Byte(byte) => put_byte(*byte, &mut self.sent),
+            };
         }
         self.is_due |= !symbols.is_empty();
         symbols.len()
@@ -296,14 +261,10 @@ impl Server {
 
     pub(crate) fn take(&mut self) -> bool {
         let is_found = self.terminal.take();
-        if !is_found && self.is_due && !self.options.is_on(true, 3) {
-            say_pair([255, 249], &mut self.sent);
+        if !is_found && self.is_due && !self.options.is_on(Side::Us, SUPPRESS_GO_AHEAD) {
+            let _refused = put_cmd(Command::Ga, &mut self.sent);
             self.is_due = false;
         }
         is_found
     }
-}
-
-fn say_pair(bytes: [u8; 2], sent: &mut Vec<u8>) {
-    let _refused = sent.extend_from_slice(&bytes);
 }

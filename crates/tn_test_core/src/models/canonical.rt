@@ -1,34 +1,34 @@
 //! Canonical input (POSIX.1-2017, XBD 11): the list of all keys is cut into pieces, which are read backwards.
 
-use crate::models::characters::Table;
 use std::alloc::Global;
-use tn_discipline::{Entry, Flags, Role, Sig, Text};
+use tn_codes::Func;
+use tn_discipline::{Entry, Role, Settings, Sig, Text};
 
 pub fn closes(role: Role) -> bool {
     matches!(role, Role::Nl | Role::Eol(_) | Role::Eol2(_) | Role::Eof)
 }
 
 /// Returns the role of a key, after it is mapped.
-pub fn role_of(flags: &Flags, table: &Table, key: u8) -> Role {
+pub fn role_of(settings: &Settings, key: u8) -> Role {
     match key {
-        13 if flags.igncr => Role::Ignored,
-        13 if flags.icrnl => Role::Nl,
-        10 if flags.inlcr => mapped_role(flags, table, 13),
-        _ => mapped_role(flags, table, key),
+        13 if settings.flags.igncr => Role::Ignored,
+        13 if settings.flags.icrnl => Role::Nl,
+        10 if settings.flags.inlcr => mapped_role(settings, 13),
+        _ => mapped_role(settings, key),
     }
 }
 
-fn mapped_role(flags: &Flags, table: &Table, byte: u8) -> Role {
-    match table.holder(byte) {
+fn mapped_role(settings: &Settings, byte: u8) -> Role {
+    match settings.chars.holder(byte) {
         _ if byte == 10 => Role::Nl,
-        Some(17) => Role::Eol(byte),
-        Some(18) => Role::Eol2(byte),
-        Some(8) => Role::Eof,
-        Some(10) => Role::Erase,
-        Some(11) => Role::Kill,
-        Some(3) if flags.isig => Role::Signal(Sig::Int),
-        Some(7) if flags.isig => Role::Signal(Sig::Quit),
-        Some(9) if flags.isig => Role::Signal(Sig::Tstp),
+        Some(Func::Forw1) => Role::Eol(byte),
+        Some(Func::Forw2) => Role::Eol2(byte),
+        Some(Func::Eof) => Role::Eof,
+        Some(Func::Ec) => Role::Erase,
+        Some(Func::El) => Role::Kill,
+        Some(Func::Ip) if settings.flags.isig => Role::Signal(Sig::Int),
+        Some(Func::Abort) if settings.flags.isig => Role::Signal(Sig::Quit),
+        Some(Func::Susp) if settings.flags.isig => Role::Signal(Sig::Tstp),
         _ => Role::Ordinary(byte),
     }
 }

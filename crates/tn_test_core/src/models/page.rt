@@ -2,7 +2,7 @@
 
 use std::alloc::Global;
 use std::fmt::Debug;
-use tn_codes::Func;
+use tn_codes::{Func, Mask};
 use tn_discipline::{Entry, Sig};
 
 /// The results of a script as text. Text that finds no memory is lost.
@@ -172,6 +172,15 @@ pub fn bytes_of(alloc: Global, word: &str) -> Vec<u8> {
         }
     }
     bytes
+}
+
+/// The mask whose first octets are these.
+pub fn mask(octets: &[u8]) -> Mask {
+    let mut mask = [0; 32];
+    for (slot, octet) in mask.iter_mut().zip(octets) {
+        *slot = *octet;
+    }
+    Mask(mask)
 }
 
 /// Something that runs commands.

@@ -1,15 +1,14 @@
 //! A terminal: the keys that were typed, and the screen's queue.
 
 use crate::models::canonical::{closes, entries, half, role_of};
-use crate::models::characters::Table;
 use std::alloc::Global;
-use tn_discipline::{Entry, Flags, Role, Settings, Symbol};
+use tn_codes::Func;
+use tn_discipline::{Entry, Role, Settings, Symbol};
 
 #[derive(Drop)]
 pub struct Terminal {
     alloc: Global,
-    pub flags: Flags,
-    pub table: Table,
+    pub settings: Settings,
     roles: Vec<Role>,
     taken: usize,
     queue: Vec<Symbol>,
@@ -19,8 +18,7 @@ impl Terminal {
     pub fn new(alloc: Global, settings: &Settings) -> Terminal {
         Terminal {
             alloc,
-            flags: settings.flags,
-            table: Table::of(settings.chars),
+            settings: *settings,
             roles: Vec::new(alloc),
             taken: 0,
             queue: Vec::new(alloc),
@@ -28,7 +26,7 @@ impl Terminal {
     }
 
     pub fn raw_key(&mut self, key: u8, echo: bool) {
-        let role = role_of(&self.flags, &self.table, key);
+        let role = role_of(&self.settings, key);
         if echo {
             self.echo(role);
         }
@@ -36,10 +34,10 @@ impl Terminal {
     }
 
     pub fn edited_byte(&mut self, byte: u8) {
-        let role = match self.table.holder(byte) {
+        let role = match self.settings.chars.holder(byte) {
             _ if byte == 10 => Role::Nl,
-            Some(17) => Role::Eol(byte),
-            Some(18) => Role::Eol2(byte),
+            Some(Func::Forw1) => Role::Eol(byte),
+            Some(Func::Forw2) => Role::Eol2(byte),
             _ => Role::Ordinary(byte),
         };
         self.add(role);
@@ -51,7 +49,7 @@ impl Terminal {
 
     // The echo of a key that is about to join the others.
     fn echo(&mut self, role: Role) {
-        let flags = self.flags;
+        let flags = self.settings.flags;
         let counted = self.half().len();
         match role {
             Role::Nl if flags.echo || flags.echonl => self.show(&[Symbol::Newline]),
@@ -79,7 +77,7 @@ impl Terminal {
     }
 
     pub fn write(&mut self, bytes: &[u8]) -> usize {
-        let flags = self.flags;
+        let flags = self.settings.flags;
         let count = bytes.len().min(self.room());
         for byte in bytes.iter().take(count) {
             self.show(&[if *byte == 10 && flags.opost && flags.onlcr {

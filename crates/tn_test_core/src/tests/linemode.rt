@@ -1,6 +1,7 @@
 //! The tables of local characters, and the modes (RFC 1184).
 
 use super::play_all;
+use crate::model::triples_of;
 use crate::models::page::{Page, Stage, Words, byte_of};
 use std::alloc::Global;
 use tn_codes::Triple;
@@ -14,15 +15,6 @@ struct Tables {
     client: ClientTable,
     server_mode: ServerMode,
     client_mode: ClientMode,
-}
-
-fn triples_of(bytes: &[u8], triples: &mut Vec<Triple>) {
-    for triple in bytes.chunks(3) {
-        if let [func, flags, value] = triple {
-            let (func, flags, value) = (*func, *flags, *value);
-            let _refused = triples.push(Triple { func, flags, value });
-        }
-    }
 }
 
 fn tell_triples(triples: &[Triple], page: &mut Page) {
@@ -64,8 +56,8 @@ impl Stage for Tables {
 
 impl Tables {
     fn server_got(&mut self, words: Words<'_>, page: &mut Page) -> bool {
-        let (mut triples, mut answers) = (Vec::new(self.alloc), Vec::new(self.alloc));
-        triples_of(&words.bytes(self.alloc), &mut triples);
+        let mut answers = Vec::new(self.alloc);
+        let triples = triples_of(self.alloc, &words.bytes(self.alloc));
         match self.server.got(&triples, &mut answers) {
             Err(_) => return true,
             Ok(true) => page.begin("asked"),
@@ -76,8 +68,8 @@ impl Tables {
     }
 
     fn client_got(&mut self, words: Words<'_>, page: &mut Page) -> bool {
-        let (mut triples, mut answers) = (Vec::new(self.alloc), Vec::new(self.alloc));
-        triples_of(&words.bytes(self.alloc), &mut triples);
+        let mut answers = Vec::new(self.alloc);
+        let triples = triples_of(self.alloc, &words.bytes(self.alloc));
         if self.client.got(&triples, &mut answers).is_err() {
             return true;
         }

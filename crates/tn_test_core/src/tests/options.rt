@@ -1,12 +1,10 @@
 //! The engine of the Q method (RFC 1143).
 
 use super::play_all;
-use crate::models::options::{Cause, cell, meaning};
 use crate::models::page::{Page, Stage, Words, byte_of};
 use std::alloc::Global;
-use std::process::Abort;
 use tn_codes::Verb;
-use tn_option::{Agree, AskFault, ECHO, Engine, LINEMODE, NAWS, QState, Side};
+use tn_option::{Agree, Engine, LINEMODE, Side};
 
 const ALL: Agree = Agree {
     us: [true; 4],
@@ -192,101 +190,4 @@ const AT_TWO_ENDS: &[(&str, &str)] = &[
 #[test]
 fn two_ends_agree_once_all_words_came(rt: HostRuntime) {
     play_all::<TwoEnds>(&rt, rt.alloc(), AT_TWO_ENDS);
-}
-
-const STATES: [QState; 6] = [
-    QState::No,
-    QState::Yes,
-    QState::WantNoEmpty,
-    QState::WantNoOpposite,
-    QState::WantYesEmpty,
-    QState::WantYesOpposite,
-];
-
-// Returns the messages that turn a side on and off.
-fn words_of(side: Side) -> (Verb, Verb) {
-    match side {
-        Side::Us => (Verb::DoIt, Verb::DontIt),
-        Side::Them => (Verb::Will, Verb::Wont),
-    }
-}
-
-// An end at which LINEMODE has come to a state.
-fn engine_at(side: Side, state: QState) -> Engine {
-    let mut engine = Engine::new(ALL);
-    if matches!(
-        state,
-        QState::Yes | QState::WantNoEmpty | QState::WantNoOpposite
-    ) {
-        let _said = engine.got(words_of(side).0, LINEMODE);
-    }
-    let wishes: &[bool] = match state {
-        QState::No | QState::Yes => &[],
-        QState::WantNoEmpty => &[false],
-        QState::WantNoOpposite => &[false, true],
-        QState::WantYesEmpty => &[true],
-        QState::WantYesOpposite => &[true, false],
-    };
-    for on in wishes {
-        let _asked = engine.ask(side, LINEMODE, *on);
-    }
-    engine
-}
-
-// Makes the change at an engine, and returns whether an on message or an off message is sent.
-fn changed(engine: &mut Engine, side: Side, cause: Cause) -> Result<Option<bool>, AskFault> {
-    let (on, off) = words_of(side);
-    let said = match cause {
-        Cause::OnWord => engine.got(on, LINEMODE),
-        Cause::OffWord => engine.got(off, LINEMODE),
-        Cause::OnWish => engine.ask(side, LINEMODE, true)?,
-        Cause::OffWish => engine.ask(side, LINEMODE, false)?,
-    };
-    Ok(said.map(|(verb, _)| meaning(verb).1))
-}
-
-// Returns the cause for which a request that changes nothing is refused.
-fn refusal(state: QState, on: bool) -> Option<AskFault> {
-    match (state, on) {
-        (QState::No, false) | (QState::Yes, true) => Some(AskFault::AlreadySo),
-        (QState::WantNoEmpty, false) | (QState::WantYesEmpty, true) => Some(AskFault::AlreadyAsked),
-        (QState::WantNoOpposite, true) | (QState::WantYesOpposite, false) => {
-            Some(AskFault::AlreadyQueued)
-        },
-        _ => None,
-    }
-}
-
-fn wanted(state: QState, cause: Cause) -> Result<Option<bool>, AskFault> {
-    let refused = match cause {
-        Cause::OnWish => refusal(state, true),
-        Cause::OffWish => refusal(state, false),
-        _ => None,
-    };
-    match refused {
-        Some(fault) => Err(fault),
-        None => Ok(cell(true, state, cause).1),
-    }
-}
-
-fn is_the_cell(rt: &impl Abort, side: Side, state: QState, cause: Cause) {
-    let mut engine = engine_at(side, state);
-    assert!(rt; engine.q_state(side, LINEMODE) == state);
-    let answer = changed(&mut engine, side, cause);
-    assert!(rt; answer == wanted(state, cause), "at {state:?}");
-    let next = cell(true, state, cause).0;
-    assert!(rt; engine.q_state(side, LINEMODE) == next, "at {state:?}");
-    assert!(rt; engine.q_state(side, NAWS) == QState::No);
-    assert!(rt; !engine.is_on(Side::Us, ECHO));
-}
-
-#[test]
-fn each_change_is_a_cell_of_rfc_1143(rt: HostRuntime) {
-    for side in [Side::Us, Side::Them] {
-        for state in STATES {
-            for cause in [Cause::OnWord, Cause::OffWord, Cause::OnWish, Cause::OffWish] {
-                is_the_cell(&rt, side, state, cause);
-            }
-        }
-    }
 }

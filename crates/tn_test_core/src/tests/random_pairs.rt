@@ -25,12 +25,18 @@ fn type_at_both(
     random: &mut Random,
 ) -> Result<(), PtyFault> {
     let key = random.pick(&KEYS);
-    match random.roll(5) {
+    match random.roll(6) {
         4 => {
             for key in [b'c', key, b'd'] {
                 plain.raw_key(key, true);
             }
             pair.type_run(&[b'c', key, b'd'], true)
+        },
+        5 => {
+            for byte in [b'c', key, b'd'] {
+                plain.edited_byte(byte);
+            }
+            pair.edited_run(&[b'c', key, b'd'])
         },
         0 => {
             plain.raw_key(key, true);

@@ -174,7 +174,7 @@ impl Compared {
     fn set_char(&mut self, rt: &impl Abort, func: u8, value: Option<u8>) {
         let func = Func::from_code(func).unwrap_or(Func::Ec);
         let set = self.end.set_char(func, value, &mut self.sent);
-        let refusal = self.plain.set_char(func.code(), value);
+        let refusal = self.plain.set_char(func, value);
         assert!(rt; set.err() == refusal.map(ServerFault::Char));
     }
 

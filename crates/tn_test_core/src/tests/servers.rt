@@ -1,8 +1,7 @@
 //! A server end: what it sends, and what its job gets.
 
 use super::play_all;
-use crate::models::page::{Page, Stage, Words, byte_of, bytes_of, number_of};
-use crate::models::payloads::mask;
+use crate::models::page::{Page, Stage, Words, byte_of, bytes_of, mask, number_of};
 use std::alloc::Global;
 use tn_discipline::{Entry, Limit, Settings};
 use tn_option::Side;

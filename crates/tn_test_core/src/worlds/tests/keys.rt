@@ -7,7 +7,7 @@ use std::process::Abort;
 use tn_cli::{CliFault, run_local, run_replay};
 
 // Returns the bytes of a word, all of them even if one allocation is refused.
-fn bytes_of(alloc: Global, word: &str) -> Vec<u8> {
+pub(super) fn bytes_of(alloc: Global, word: &str) -> Vec<u8> {
     let one = page::bytes_of(alloc, word);
     let other = page::bytes_of(alloc, word);
     if one.len() < other.len() { other } else { one }

@@ -2,7 +2,7 @@
 
 use super::playing::{agrees, open, play, rests, settle, types};
 use super::worlds::print_all;
-use crate::models::payloads::mask;
+use crate::models::page::mask;
 use crate::models::random::Random;
 use std::alloc::Global;
 use std::process::Abort;

@@ -2,7 +2,6 @@
 //! file has a contract, so that those of a world's calls are looked at once.
 
 use crate::models::canonical::{entries, role_of};
-use crate::models::characters::Table;
 use std::alloc::Global;
 use std::process::Abort;
 use tn_discipline::{Entry, Limit, Settings};
@@ -94,10 +93,9 @@ pub(super) fn waiting(world: &World) -> usize {
 // The entries of these keys at one line of at most this number of bytes.
 fn at_a_line(alloc: Global, keys: &[u8], most: usize) -> Vec<Entry> {
     let settings = Settings::standard();
-    let table = Table::of(settings.chars);
     let mut roles = Vec::new(alloc);
     for key in keys {
-        let _refused = roles.push(role_of(&settings.flags, &table, *key));
+        let _refused = roles.push(role_of(&settings, *key));
     }
     entries(alloc, most, &roles)
 }

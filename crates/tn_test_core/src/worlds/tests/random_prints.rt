@@ -1,7 +1,6 @@
 //! The output of `tn local` and `tn replay`, compared with the definition of canonical input.
 
 use crate::models::canonical::{entries, role_of};
-use crate::models::characters::Table;
 use crate::models::random::Random;
 use std::alloc::Global;
 use std::process::Abort;
@@ -34,10 +33,9 @@ fn put_line(lines: &mut String, entry: &Entry) {
 // The lines of the entries that the whole list of keys gives.
 fn lines_of(alloc: Global, keys: &[u8]) -> String {
     let settings = Settings::standard();
-    let table = Table::of(settings.chars);
     let (mut roles, mut lines) = (Vec::new(alloc), String::new(alloc));
     for key in keys {
-        let _refused = roles.push(role_of(&settings.flags, &table, *key));
+        let _refused = roles.push(role_of(&settings, *key));
     }
     for entry in entries(alloc, 254, &roles).as_slice() {
         put_line(&mut lines, entry);

@@ -1,7 +1,7 @@
 //! Ends that stop or fail, and what is left then.
 
 use super::playing::{ALL, agrees, open, play, play_all, rests, rests_with, types, waiting};
-use crate::models::payloads::mask;
+use crate::models::page::mask;
 use std::alloc::Global;
 use std::cmp::Ordering;
 use std::process::Abort;
