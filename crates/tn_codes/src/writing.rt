@@ -24,7 +24,8 @@ use std::alloc::AllocError;
 pub fn write_payload(payload: &Payload, out: &mut Vec<u8>) -> Result<(), AllocError>
     requires { IsShort payload.now }
     ensures ok { OnOk result (out.new.items ≡ out.old.items ++ parameters_of payload.now) }
-    ensures said { OnOk result (Says (option_of payload.now) (parameters_of payload.now) payload.now) }
+    ensures said { OnOk result
+        (Says (option_of payload.now) (parameters_of payload.now) payload.now) }
     ensures short { OnOk result (length (parameters_of payload.now) ≤ 511) }
     ensures err { OnErr result (out.new.items ≡ out.old.items) }
     ensures full { OnErr result
