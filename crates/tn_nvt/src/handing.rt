@@ -190,7 +190,8 @@ fn hand_inside<S: Sink>(
     sink: &mut S,
 ) -> Result<(Place, usize), NvtFault>
     requires { 0 < length rest.now }
-    ensures ok { IfOk result (λ r. HandsSome S.takes (machine.Inside (gathered_of body.old)) rest.now
+    ensures ok { IfOk result
+        (λ r. HandsSome S.takes (machine.Inside (gathered_of body.old)) rest.now
         r.1 sink.old sink.new (progress r.0 body.new)) }
     ensures refused { IsErrOf result fault.Refused → StopsFront S.takes S.gives_up
         (machine.Inside (gathered_of body.old)) rest.now sink.old sink.new }
@@ -216,7 +217,8 @@ impl Given {
     /// Passes on the items one by one.
     #[inline(always)]
     fn hand_to<S: Sink>(self, body: &mut Body, sink: &mut S) -> Result<(), Refused>
-        ensures ok { OnOk result (TakesEach S.takes sink.old (singles (given_items self body.old)) sink.new) }
+        ensures ok { OnOk result
+            (TakesEach S.takes sink.old (singles (given_items self body.old)) sink.new) }
         ensures err { OnErr result (RefusesEach S.takes S.gives_up sink.old
             (singles (given_items self body.old)) sink.new) }
         ensures body { self ≢ given.Sub → body.new ≡ body.old }

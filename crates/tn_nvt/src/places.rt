@@ -208,7 +208,8 @@ fn inside(body: &mut Body, byte: u8) -> Result<(Place, Given), AllocError>
 
 #[inline(always)]
 fn inside_iac(body: &mut Body, byte: u8) -> Result<(Place, Given), AllocError>
-    ensures ok { IfOk result (λ r. StepAdvances (machine.InsideIac (gathered_of body.old)) (byte ∷ [])
+    ensures ok { IfOk result
+        (λ r. StepAdvances (machine.InsideIac (gathered_of body.old)) (byte ∷ [])
         (given_items r.1 body.new) (progress r.0 body.new)) }
     ensures special { IfOk result (λ r. AreSpecial (given_items r.1 body.new)) }
     ensures closes { IfOk result (λ r. r.1 ≡ given.Sub → r.0 ≡ place.Outside) }
