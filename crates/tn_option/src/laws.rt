@@ -23,10 +23,11 @@ pub fn unknown_options_change_nothing()
 /// A message about one of the four options moves its side by one cell of the table, and leaves the
 /// other side, the other options and what this end agrees to.
 pub fn words_change_one_place()
-    ensures moves { (o : Options) (verb : Verb) (code : ℕ) (option : Known) → known_option code ≡ Some option
-        → MovesByCell o (options_after_word o verb code) (side_of verb) code (cause_of verb) }
-    ensures others { (o : Options) (verb : Verb) (code : ℕ) → LeavesOthers o (options_after_word o verb code)
-        (side_of verb) code }
+    ensures moves { (o : Options) (verb : Verb) (code : ℕ) (option : Known) →
+        known_option code ≡ Some option →
+        MovesByCell o (options_after_word o verb code) (side_of verb) code (cause_of verb) }
+    ensures others { (o : Options) (verb : Verb) (code : ℕ) →
+        LeavesOthers o (options_after_word o verb code) (side_of verb) code }
     ensures agreement { (o : Options) (verb : Verb) (code : ℕ) →
         AgreesAsBefore o (options_after_word o verb code) }
 {}
@@ -54,6 +55,8 @@ pub fn options_agree()
 /// Two whole ends, whose messages about all options share one way, agree on each of the four
 /// options, on either side, if no message about that side of it is on its way.
 pub fn engines_agree()
-    ensures { (here there : Agree) (list : List EngineStep) (side : Side) (code : ℕ) (option : Known)
-        → known_option code ≡ Some option → EnginesAgree (engine_steps list (pair_of here there)) side code }
+    ensures { (here there : Agree) (list : List EngineStep)
+        (side : Side) (code : ℕ) (option : Known) →
+        known_option code ≡ Some option →
+        EnginesAgree (engine_steps list (pair_of here there)) side code }
 {}
