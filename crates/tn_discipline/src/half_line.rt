@@ -132,7 +132,8 @@ impl Line {
             IfOk result (λ effect. Advances self.old roles (effect_entries effect) self.new) }
         ensures dropped { IfOk result (DropsExactly self.old (roles_of settings.now (key ∷ []))) }
 
-        ensures effect { IfOk result (λ effect. effect ≡ effect_of self.old (role_of_key settings.now key)) }
+        ensures effect { IfOk result
+            (λ effect. effect ≡ effect_of self.old (role_of_key settings.now key)) }
         ensures line { OnOk result (self.new ≡ line_after self.old (role_of_key settings.now key)) }
 
         ensures only_a_text { OnErr result (GivesText self.old (role_of_key settings.now key)) }
@@ -150,13 +151,16 @@ impl Line {
     pub fn literal(&mut self, settings: &Settings, byte: u8) -> Result<Effect, AllocError>
         ensures advances { let roles = literal_role settings.now.chars byte ∷ [] in
             IfOk result (λ effect. Advances self.old roles (effect_entries effect) self.new) }
-        ensures dropped { IfOk result (DropsExactly self.old (literal_role settings.now.chars byte ∷ [])) }
+        ensures dropped { IfOk result
+            (DropsExactly self.old (literal_role settings.now.chars byte ∷ [])) }
 
         ensures effect { let role = literal_role settings.now.chars byte in
             IfOk result (λ effect. effect ≡ effect_of self.old role) }
-        ensures line { OnOk result (self.new ≡ line_after self.old (literal_role settings.now.chars byte)) }
+        ensures line { OnOk result
+            (self.new ≡ line_after self.old (literal_role settings.now.chars byte)) }
 
-        ensures only_a_text { OnErr result (GivesText self.old (literal_role settings.now.chars byte)) }
+        ensures only_a_text { OnErr result
+            (GivesText self.old (literal_role settings.now.chars byte)) }
         ensures err { OnErr result (self.new ≡ self.old) }
     {
         self.play(role_of_literal(settings, byte))
@@ -190,7 +194,8 @@ impl Line {
         ensures count { let room = max_counted self.old.limit - line_length self.old in
             result ≡ min room (length bytes.now) }
         ensures within { line_length self.old < self.old.limit }
-        ensures line { self.new ≡ record self.old { held = self.old.held ++ take result bytes.now } }
+        ensures line { self.new ≡
+            record self.old { held = self.old.held ++ take result bytes.now } }
     {
         self.keep_front(bytes)
     }
@@ -269,7 +274,8 @@ impl Line {
         ensures err { OnErr result (self.new ≡ self.old) }
         ensures err_out { OnErr result (out.new.items ≡ out.old.items) }
         ensures some { OnErr result (0 < length self.old.held) }
-        ensures full { OnErr result (vec_capacity out.old < vec_len out.old + length self.old.held) }
+        ensures full { OnErr result
+            (vec_capacity out.old < vec_len out.old + length self.old.held) }
     {
         out.extend_from_slice(self.held.as_slice())?;
         self.hand_on();
@@ -373,7 +379,8 @@ impl Line {
         ensures count { let room = max_counted self.old.limit - line_length self.old in
             result ≡ min room (length bytes.now) }
         ensures within { line_length self.old < self.old.limit }
-        ensures line { self.new ≡ record self.old { held = self.old.held ++ take result bytes.now } }
+        ensures line { self.new ≡
+            record self.old { held = self.old.held ++ take result bytes.now } }
     {
         let max_counted = usize::from(self.limit.bytes()) - 1;
         let room = max_counted - (self.ahead as usize + self.held.len());

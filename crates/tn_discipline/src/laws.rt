@@ -16,7 +16,8 @@ pub fn accepted_characters()
     ensures distinct { (chars : Characters) (f g : Func) (byte : ℕ) →
         AreAllowed chars → slot chars f ≡ Some byte → slot chars g ≡ Some byte → f ≡ g }
     ensures allowed { (chars : Characters) (func : Func) (value : Option ℕ) →
-        AreAllowed chars → char_fault chars func value ≡ None → AreAllowed (with_slot chars func value) }
+        AreAllowed chars → char_fault chars func value ≡ None →
+        AreAllowed (with_slot chars func value) }
 {}
 
 /// The roles of a list of keys are those of its parts.
@@ -36,7 +37,8 @@ pub fn roles_of_more_keys()
 pub fn count_is_length()
     ensures count { (limit : ℕ) (history : List Role) →
         count_of limit history ≡ length (half_of limit history) }
-    ensures fits { (limit : ℕ) (history : List Role) → length (half_of limit history) ≤ max_counted limit }
+    ensures fits { (limit : ℕ) (history : List Role) →
+        length (half_of limit history) ≤ max_counted limit }
 {}
 
 /// No text has more bytes than a line has at most.
@@ -50,7 +52,8 @@ pub fn texts_fit()
 pub fn one_more_role()
     ensures half { (limit : ℕ) (history : List Role) (r : Role) →
         half_of limit (history ++ r ∷ []) ≡ half_next limit (half_of limit history) r }
-    ensures entries { (limit : ℕ) (history : List Role) (r : Role) → let half = half_of limit history in
+    ensures entries { (limit : ℕ) (history : List Role) (r : Role) →
+        let half = half_of limit history in
         entries_of limit (history ++ r ∷ []) ≡ entries_of limit history ++ gain_next limit half r }
 {}
 
@@ -60,7 +63,8 @@ pub fn more_roles()
     ensures half { (limit : ℕ) (history roles : List Role) →
         half_of limit (history ++ roles) ≡ half_all limit (half_of limit history) roles }
     ensures entries { (limit : ℕ) (history roles : List Role) → let half = half_of limit history in
-        entries_of limit (history ++ roles) ≡ entries_of limit history ++ gain_all limit half roles }
+        entries_of limit (history ++ roles) ≡
+        entries_of limit history ++ gain_all limit half roles }
 {}
 
 /// Each line that fits is left by some keys, so that a statement about all keys that left it is
@@ -74,13 +78,15 @@ pub fn every_line_is_left()
 pub fn each_role_advances()
     ensures advances { (line : HalfLine) (r : Role) →
         Advances line (roles_from r) (effect_entries (effect_of line r)) (line_after line r) }
-    ensures dropped { (line : HalfLine) (r : Role) → DropsExactly line (roles_from r) (effect_of line r) }
+    ensures dropped { (line : HalfLine) (r : Role) →
+        DropsExactly line (roles_from r) (effect_of line r) }
 {}
 
 /// A statement about all keys that left a line follows from the line, and the other way round.
 pub fn moves_are_advances()
     ensures moves { (old new : HalfLine) (roles : List Role) (gain : List Entry) →
-        line_length old < old.limit → Advances old roles gain new → AdvancesFromLine old roles gain new }
+        line_length old < old.limit → Advances old roles gain new →
+        AdvancesFromLine old roles gain new }
     ensures advances { (old new : HalfLine) (roles : List Role) (gain : List Entry) →
         AdvancesFromLine old roles gain new → Advances old roles gain new }
 {}
