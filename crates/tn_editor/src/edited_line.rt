@@ -43,7 +43,8 @@ impl Model for EditedLine {
 impl EditedLine {
     /// Makes an empty line, with room for a whole line, which it takes once.
     pub(crate) fn new(alloc: Global, limit: Limit) -> Result<EditedLine, AllocError>
-        ensures { IfOk result (λ l. l ≡ record { ahead = 0; held = []; characters = []; limit = limit }) }
+        ensures { IfOk result
+            (λ l. l ≡ record { ahead = 0; held = []; characters = []; limit = limit }) }
     {
         let room = usize::from(limit.bytes());
         Ok(EditedLine {
@@ -139,7 +140,8 @@ impl EditedLine {
 
     /// Takes the whole half-typed line away.
     pub(crate) fn clear(&mut self)
-        ensures { self.new ≡ record { ahead = 0; held = []; characters = []; limit = self.old.limit } }
+        ensures { self.new ≡
+            record { ahead = 0; held = []; characters = []; limit = self.old.limit } }
     {
         self.ahead = 0;
         self.held.clear();
@@ -149,7 +151,8 @@ impl EditedLine {
     /// Takes all away, and leaves this number of bytes ahead.
     pub(crate) fn resume(&mut self, ahead: u16)
         requires { ahead < self.old.limit }
-        ensures { self.new ≡ record { ahead = ahead; held = []; characters = []; limit = self.old.limit } }
+        ensures { self.new ≡
+            record { ahead = ahead; held = []; characters = []; limit = self.old.limit } }
     {
         self.ahead = ahead;
         self.held.clear();

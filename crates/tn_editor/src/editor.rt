@@ -44,7 +44,8 @@ impl Editor {
         keys: EditKeys,
         limit: Limit,
     ) -> Result<Editor, AllocError>
-        ensures { (t : Terminal) → t.canon.settings ≡ settings → t.keys ≡ keys → t.canon.limit ≡ limit →
+        ensures { (t : Terminal) → t.canon.settings ≡ settings →
+            t.keys ≡ keys → t.canon.limit ≡ limit →
             IfOk result (Holds t nothing_typed) }
     {
         Ok(Editor {
@@ -59,7 +60,8 @@ impl Editor {
     /// it is: characters that were typed before stay characters. No memory is wanted.
     pub fn set(&mut self, settings: Settings, keys: EditKeys)
         ensures { (t u : Terminal) (e : Editing) → Holds t e self.old →
-            u.canon.settings ≡ settings → u.keys ≡ keys → u.canon.limit ≡ t.canon.limit → Holds u e self.new }
+            u.canon.settings ≡ settings → u.keys ≡ keys →
+            u.canon.limit ≡ t.canon.limit → Holds u e self.new }
     {
         self.roles.set(settings);
         self.keys = keys;
@@ -79,14 +81,16 @@ impl Editor {
 
     /// Returns the half-typed line, without the bytes ahead.
     pub fn half_line(&self) -> &[u8]
-        ensures { (t : Terminal) (e : Editing) → Holds t e self.now → line_bytes e ≡ e.ahead ++ result.now }
+        ensures { (t : Terminal) (e : Editing) → Holds t e self.now →
+            line_bytes e ≡ e.ahead ++ result.now }
     {
         self.line.held()
     }
 
     /// Returns the role of a key that is typed next.
     pub fn role(&self, key: u8) -> EditRole
-        ensures { (t : Terminal) (e : Editing) → Holds t e self.now → result ≡ edit_role_of_key t key }
+        ensures { (t : Terminal) (e : Editing) →
+            Holds t e self.now → result ≡ edit_role_of_key t key }
     {
         edit_role(&self.roles.settings(), &self.keys, self.roles.role(key))
     }
@@ -109,13 +113,15 @@ impl Editor {
     }
 
     fn is_itself(&self, byte: u8) -> bool
-        ensures { (t : Terminal) (e : Editing) → Holds t e self.now → (result ≡ true) ↔ IsItself t byte }
+        ensures { (t : Terminal) (e : Editing) →
+            Holds t e self.now → (result ≡ true) ↔ IsItself t byte }
     {
         joins(self.role(byte), byte)
     }
 
     fn kill(&self) -> Option<u8>
-        ensures { (t : Terminal) (e : Editing) → Holds t e self.now → result ≡ t.canon.settings.chars.kill }
+        ensures { (t : Terminal) (e : Editing) → Holds t e self.now →
+            result ≡ t.canon.settings.chars.kill }
     {
         self.roles.settings().chars.get(Func::El)
     }
@@ -136,8 +142,10 @@ impl Editor {
 
     // Types a key of this role, and returns how many times it is typed at the plain terminal.
     fn play(&mut self, role: EditRole) -> u16
-        ensures holds { (t : Terminal) (e : Editing) → Holds t e self.old → Holds t (edited_next t e role) self.new }
-        ensures count { (t : Terminal) (e : Editing) → Holds t e self.old → result ≡ times t e role }
+        ensures holds { (t : Terminal) (e : Editing) →
+            Holds t e self.old → Holds t (edited_next t e role) self.new }
+        ensures count { (t : Terminal) (e : Editing) →
+            Holds t e self.old → result ≡ times t e role }
     {
         match role {
             EditRole::Plain(plain) => self.play_plain(plain),
@@ -167,9 +175,12 @@ impl Editor {
     fn type_byte(&mut self, byte: u8) -> u16
         ensures roles { self.new.roles ≡ self.old.roles }
         ensures keys { self.new.keys ≡ self.old.keys }
-        ensures line { self.new.line ≡ line_next self.old.keys.iutf8 self.old.line self.old.refused byte }
-        ensures refused { self.new.refused ≡ refused_next self.old.keys.iutf8 self.old.line self.old.refused byte }
-        ensures count { result ≡ times_typed self.old.keys.iutf8 self.old.line self.old.refused byte }
+        ensures line { self.new.line ≡
+            line_next self.old.keys.iutf8 self.old.line self.old.refused byte }
+        ensures refused { self.new.refused ≡
+            refused_next self.old.keys.iutf8 self.old.line self.old.refused byte }
+        ensures count { result ≡
+            times_typed self.old.keys.iutf8 self.old.line self.old.refused byte }
     {
         let iutf8 = self.keys.iutf8;
         if self.takes(byte) {
@@ -222,7 +233,8 @@ impl Editor {
     fn erase_word(&mut self) -> u16
         ensures holds { (t : Terminal) (e : Editing) → Holds t e self.old →
             Holds t (edited_next t e edit_role.EraseWord) self.new }
-        ensures count { (t : Terminal) (e : Editing) → Holds t e self.old → result ≡ times t e edit_role.EraseWord }
+        ensures count { (t : Terminal) (e : Editing) →
+            Holds t e self.old → result ≡ times t e edit_role.EraseWord }
     {
         let before = self.line.bytes();
         self.line.erase_word(self.keys.words);

@@ -31,14 +31,16 @@ pub fn expanded_roles_edit_the_line()
         ≡ entries_of canon.limit before ++ typed_gains canon e typed }
     ensures half { (canon : Canon) (before : List Role) (typed : List Typed) →
         let e = after_half (half_of canon.limit before) in
-        half_of canon.limit (before ++ expanded_roles canon e typed) ≡ line_bytes (typed_all canon e typed) }
+        half_of canon.limit (before ++ expanded_roles canon e typed) ≡
+        line_bytes (typed_all canon e typed) }
 {}
 
 /// If a line goes to a plain terminal once it ends, and a signal at once, that terminal gives the
 /// entries that a terminal with the editing keys gives, whatever was typed there before, if no
 /// half-typed line was left. So all settings may change within a line.
 pub fn whole_lines_give_the_entries()
-    ensures { (canon : Canon) (before : List Role) (typed : List Typed) → half_of canon.limit before ≡ [] →
+    ensures { (canon : Canon) (before : List Role) (typed : List Typed) →
+        half_of canon.limit before ≡ [] →
         entries_of canon.limit (before ++ whole_lines canon nothing_typed typed)
         ≡ entries_of canon.limit before ++ typed_gains canon nothing_typed typed }
 {}
@@ -57,11 +59,13 @@ pub fn an_earlier_line_comes_back()
     ensures half { (t : Terminal) (e : Editing) (keys : List ℕ) (kill : ℕ) →
         AreAllowed t.canon.settings.chars → t.canon.settings.chars.kill ≡ Some kill →
         All (IsItself t) (edited_half t keys) →
-        line_bytes (edited_all t e (edit_roles_of t (recalling kill (edited_half t keys)))) ≡ edited_half t keys }
+        line_bytes (edited_all t e (edit_roles_of t (recalling kill (edited_half t keys)))) ≡
+        edited_half t keys }
     ensures keys { (t : Terminal) (e : Editing) (keys : List ℕ) (kill : ℕ) →
         AreAllowed t.canon.settings.chars → t.canon.settings.chars.kill ≡ Some kill →
         All (IsItself t) (edited_half t keys) →
-        expanded_from t e (recalling kill (edited_half t keys)) ≡ recalling kill (edited_half t keys) }
+        expanded_from t e (recalling kill (edited_half t keys)) ≡
+        recalling kill (edited_half t keys) }
 {}
 
 /// If no editing key is typed, and no character of several bytes, each key becomes itself.
@@ -81,5 +85,6 @@ pub fn without_editing_keys_it_is_plain()
 /// A character is kept whole, or not at all.
 pub fn a_character_is_kept_whole_or_not_at_all()
     ensures { (t : Terminal) (e : Editing) (first : ℕ) (more : List ℕ) → IsCharacter t first more →
-        IsWholeOrNone e.characters (first ∷ more) (edited_all t e (bytes_typed (first ∷ more))).characters }
+        IsWholeOrNone e.characters (first ∷ more)
+        (edited_all t e (bytes_typed (first ∷ more))).characters }
 {}
