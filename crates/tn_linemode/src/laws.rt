@@ -18,8 +18,10 @@ pub fn levels_are_two_bits()
 
 /// There are never more answers than triples came.
 pub fn answers_bounded()
-    ensures server { (c : Characters) (ts : List Triple) → length (server_answers c ts) ≤ length ts }
-    ensures client { (c : Characters) (ts : List Triple) → length (client_answers c ts) ≤ length ts }
+    ensures server { (c : Characters) (ts : List Triple) →
+        length (server_answers c ts) ≤ length ts }
+    ensures client { (c : Characters) (ts : List Triple) →
+        length (client_answers c ts) ≤ length ts }
     ensures announcement { (c : Characters) → length (announcement c) ≡ 8 }
 {}
 
@@ -27,10 +29,14 @@ pub fn answers_bounded()
 /// and they change nothing at the server. A peer that sends back the server's answers, without the
 /// whole table, is silent after as many rounds as its list has triples, and one more.
 pub fn exchanges_end()
-    ensures answers { (c s : Characters) (ts : List Triple) → server_answers s (client_answers c ts) ≡ [] }
-    ensures table { (c s : Characters) (ts : List Triple) → server_after s (client_answers c ts) ≡ s }
-    ensures asks { (c : Characters) (ts : List Triple) → IsFalse (server_is_asked (client_answers c ts)) }
-    ensures sent_back { (c d : Characters) (ts : List Triple) → client_answers d (client_answers c ts) ≡ [] }
+    ensures answers { (c s : Characters) (ts : List Triple) →
+        server_answers s (client_answers c ts) ≡ [] }
+    ensures table { (c s : Characters) (ts : List Triple) →
+        server_after s (client_answers c ts) ≡ s }
+    ensures asks { (c : Characters) (ts : List Triple) →
+        IsFalse (server_is_asked (client_answers c ts)) }
+    ensures sent_back { (c d : Characters) (ts : List Triple) →
+        client_answers d (client_answers c ts) ≡ [] }
     ensures repeated { (c : Characters) (ts : List Triple) (n : ℕ) →
         AreAllowed c → length ts < n → repeated n c ts ≡ [] }
 {
@@ -39,8 +45,8 @@ pub fn exchanges_end()
 
 /// At the server acknowledgements change nothing, and are not answered.
 pub fn acknowledgements_end_the_exchange()
-    ensures table { (c : Characters) (ts : List Triple) → IsTrue (list_all has_ack ts) → server_after c ts
-        ≡ c }
+    ensures table { (c : Characters) (ts : List Triple) →
+        IsTrue (list_all has_ack ts) → server_after c ts ≡ c }
     ensures answers { (c : Characters) (ts : List Triple) →
         IsTrue (list_all has_ack ts) → server_answers c ts ≡ [] }
 {}
@@ -57,8 +63,10 @@ pub fn announced_tables_agree()
 
 /// Tables stay such as a terminal can have, whatever the other end sends.
 pub fn tables_stay_allowed()
-    ensures server { (c : Characters) (ts : List Triple) → AreAllowed c → AreAllowed (server_after c ts) }
-    ensures client { (c : Characters) (ts : List Triple) → AreAllowed c → AreAllowed (client_after c ts) }
+    ensures server { (c : Characters) (ts : List Triple) →
+        AreAllowed c → AreAllowed (server_after c ts) }
+    ensures client { (c : Characters) (ts : List Triple) →
+        AreAllowed c → AreAllowed (client_after c ts) }
 {
     accepted_characters();
     let _ = Chars::standard();

@@ -135,7 +135,8 @@ pub fn table_of(chars: &Chars) -> [Triple; 8]
 pub fn push_answer(answers: &mut Vec<Triple>, answer: Option<Triple>) -> Result<(), AllocError>
     ensures items { answers.new.items ≡
         (if is_ok result then answers.old.items ++ option_to_list answer else answers.old.items) }
-    ensures len { OnOk result (vec_len answers.new ≡ vec_len answers.old + length (option_to_list answer)) }
+    ensures len { OnOk result
+        (vec_len answers.new ≡ vec_len answers.old + length (option_to_list answer)) }
     ensures capacity { vec_capacity answers.old ≤ vec_capacity answers.new }
     ensures full { let replies = option_to_list answer in
         OnErr result (vec_capacity answers.old < vec_len answers.old + length replies) }
