@@ -167,12 +167,14 @@ impl Pair {
         // After any keys that led to this half-typed line, the entries gain those that these keys
         // add.
         ensures advances { let gain = input_gains (Keys echo) self.old keys.now in
-            OnOk result (Advances self.old.line (roles_of self.old.settings keys.now) gain self.new.line) }
+            OnOk result
+            (Advances self.old.line (roles_of self.old.settings keys.now) gain self.new.line) }
         ensures entries { let gain = input_gains (Keys echo) self.old keys.now in
             OnOk result (self.new.entries ≡ self.old.entries ++ gain) }
         ensures pair { OnOk result (self.new ≡ after_all (Keys echo) self.old keys.now) }
         ensures accepted { OnOk result (AcceptsAll (Keys echo) self.old keys.now) }
-        ensures refused { IfErr result (λ fault. StopsWithin (Keys echo) self.old keys.now fault self.new) }
+        ensures refused { IfErr result
+            (λ fault. StopsWithin (Keys echo) self.old keys.now fault self.new) }
     {
         self.take_each(keys, Input::Keys(echo))
     }
@@ -185,10 +187,12 @@ impl Pair {
     /// effect, and the pair is closed.
     pub fn edited_byte(&mut self, byte: u8) -> Result<(), PtyFault>
         ensures advances { let role = literal_role self.old.settings.chars byte in
-            OnOk result (Advances self.old.line (role ∷ []) (gain_of self.old.line role) self.new.line) }
+            OnOk result
+            (Advances self.old.line (role ∷ []) (gain_of self.old.line role) self.new.line) }
         ensures pair { let role = literal_role self.old.settings.chars byte in
             OnOk result (self.new ≡ terminal_after self.old role []) }
-        ensures accepted { OnOk result (Accepts self.old (literal_role self.old.settings.chars byte)) }
+        ensures accepted { OnOk result
+            (Accepts self.old (literal_role self.old.settings.chars byte)) }
         ensures refused { let role = literal_role self.old.settings.chars byte in
             IfErr result (λ fault. Refuses self.old role fault self.new) }
     {
@@ -210,12 +214,14 @@ impl Pair {
         // After any keys that led to this half-typed line, the entries gain those that these bytes
         // add.
         ensures advances { let roles = map (literal_role self.old.settings.chars) bytes.now in
-            OnOk result (Advances self.old.line roles (input_gains Edited self.old bytes.now) self.new.line) }
+            OnOk result
+            (Advances self.old.line roles (input_gains Edited self.old bytes.now) self.new.line) }
         ensures entries { let gain = input_gains Edited self.old bytes.now in
             OnOk result (self.new.entries ≡ self.old.entries ++ gain) }
         ensures pair { OnOk result (self.new ≡ after_all Edited self.old bytes.now) }
         ensures accepted { OnOk result (AcceptsAll Edited self.old bytes.now) }
-        ensures refused { IfErr result (λ fault. StopsWithin Edited self.old bytes.now fault self.new) }
+        ensures refused { IfErr result
+            (λ fault. StopsWithin Edited self.old bytes.now fault self.new) }
     {
         self.take_each(bytes, Input::Edited)
     }
@@ -234,7 +240,8 @@ impl Pair {
         ensures pair { OnOk result
             (self.new ≡ terminal_after self.old (command_role command) (command_shows command)) }
         ensures accepted { OnOk result (Accepts self.old (command_role command)) }
-        ensures refused { IfErr result (λ fault. Refuses self.old (command_role command) fault self.new) }
+        ensures refused { IfErr result
+            (λ fault. Refuses self.old (command_role command) fault self.new) }
     {
         let role = role_of_command(command);
         match self.enter(role) {
@@ -256,7 +263,8 @@ impl Pair {
     pub fn pull(&mut self, max: usize, out: &mut Vec<Symbol>) -> Result<usize, AllocError>
         ensures count { IfOk result (λ n. n ≡ min max (length self.old.queue)) }
         ensures out { IfOk result (λ n. out.new.items ≡ out.old.items ++ take n self.old.queue) }
-        ensures pair { IfOk result (λ n. self.new ≡ record self.old { queue = drop n self.old.queue }) }
+        ensures pair { IfOk result
+            (λ n. self.new ≡ record self.old { queue = drop n self.old.queue }) }
         ensures err { OnErr result ((self.new ≡ self.old) × (out.new.items ≡ out.old.items)) }
         ensures full { let count = min max (length self.old.queue) in
             OnErr result (vec_capacity out.old < vec_len out.old + count) }
@@ -401,7 +409,8 @@ impl Pair {
     fn take_each(&mut self, bytes: &[u8], input: Input) -> Result<(), PtyFault>
         ensures pair { OnOk result (self.new ≡ after_all input self.old bytes.now) }
         ensures accepted { OnOk result (AcceptsAll input self.old bytes.now) }
-        ensures refused { IfErr result (λ fault. StopsWithin input self.old bytes.now fault self.new) }
+        ensures refused { IfErr result
+            (λ fault. StopsWithin input self.old bytes.now fault self.new) }
     {
         let mut taken = 0;
         while taken < bytes.len() {
@@ -419,9 +428,11 @@ impl Pair {
         requires { 0 < length bytes.now }
         ensures some { IfOk result (λ count. 0 < count) }
         ensures within { IfOk result (λ count. count ≤ length bytes.now) }
-        ensures pair { IfOk result (λ count. self.new ≡ after_all input self.old (take count bytes.now)) }
+        ensures pair { IfOk result
+            (λ count. self.new ≡ after_all input self.old (take count bytes.now)) }
         ensures accepted { IfOk result (λ count. AcceptsAll input self.old (take count bytes.now)) }
-        ensures refused { IfErr result (λ fault. StopsWithin input self.old bytes.now fault self.new) }
+        ensures refused { IfErr result
+            (λ fault. StopsWithin input self.old bytes.now fault self.new) }
     {
         let count = self.take_quiet(bytes, input);
         if count == bytes.len() {
@@ -541,7 +552,8 @@ impl Pair {
     // Returns the reason why a key of this role is refused, before any memory is looked for.
     fn refusal(&self, role: Role) -> Option<PtyFault>
         ensures none { IfNone result (Accepts self.now role) }
-        ensures some { IfSome result (λ fault. Refuses self.now role fault (shut_terminal self.now)) }
+        ensures some { IfSome result
+            (λ fault. Refuses self.now role fault (shut_terminal self.now)) }
     {
         let is_full = self.entries.len() >= MAX_WAITING;
         if self.closed {
@@ -565,7 +577,8 @@ impl Pair {
     // Puts those of the symbols that are there into the queue, or none if they do not all fit.
     #[tactic(auto, using(crate::proofs::Shown::count_present))]
     fn show(&mut self, symbols: &[Option<Symbol>])
-        ensures { self.new ≡ record self.old { queue = queue_with self.old.queue (symbols_in symbols.now) } }
+        ensures { self.new ≡
+            record self.old { queue = queue_with self.old.queue (symbols_in symbols.now) } }
     {
         if count_present(symbols) <= QUEUE_SYMBOLS - self.queue.len() {
             put_present(&mut self.queue, symbols);
@@ -575,7 +588,8 @@ impl Pair {
     // Puts the echo of a key, which most often is one symbol, into the queue, or none of it if it
     // does not fit.
     fn show_echo(&mut self, shown: [Option<Symbol>; 3])
-        ensures { self.new ≡ record self.old { queue = queue_with self.old.queue (symbols_in shown) } }
+        ensures { self.new ≡
+            record self.old { queue = queue_with self.old.queue (symbols_in shown) } }
     {
         match (shown[0], shown[1], shown[2]) {
             (Some(symbol), None, None) => self.queue.push(symbol),
@@ -630,7 +644,8 @@ fn role_of_command(command: Command) -> Role
 fn joining_front(chars: &Chars, bytes: &[u8]) -> usize
     ensures within { result ≤ length bytes.now }
     ensures joins { All (JoinsEdited chars.now) (take result bytes.now) }
-    ensures next { result < length bytes.now → JoinsEdited chars.now (get_or bytes.now result 0) → ⊥ }
+    ensures next { result < length bytes.now →
+        JoinsEdited chars.now (get_or bytes.now result 0) → ⊥ }
 {
     // In the place of a character that is disabled, a line feed is looked for twice.
     let eol = chars.get(Func::Forw1).unwrap_or(b'\n');

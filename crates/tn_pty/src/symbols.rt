@@ -119,7 +119,8 @@ impl Queue {
     pub(crate) fn pull_run(&mut self, max: usize, ends: (u8, u8), out: &mut Vec<u8>) -> usize
         requires { vec_len out.old + min max (length self.old) ≤ vec_capacity out.old }
         ensures count { result ≡ min max (length (leading_run ends.0 ends.1 self.old)) }
-        ensures items { out.new.items ≡ out.old.items ++ take result (leading_run ends.0 ends.1 self.old) }
+        ensures items { out.new.items ≡
+            out.old.items ++ take result (leading_run ends.0 ends.1 self.old) }
         ensures len { vec_len out.new ≡ vec_len out.old + result }
         ensures capacity { vec_capacity out.old ≤ vec_capacity out.new }
         ensures queue { self.new ≡ drop result self.old }
@@ -197,8 +198,10 @@ fn push_symbols(bytes: &[u8], marks: &mut HeapCircularBuffer<bool>, out: &mut Ve
 
 // Appends the leading run of two slices that follow one another, and returns its length.
 fn copy_run(front: &[u8], back: &[u8], max: usize, ends: (u8, u8), out: &mut Vec<u8>) -> usize
-    requires { vec_len out.old + min max (length front.now + length back.now) ≤ vec_capacity out.old }
-    ensures count { result ≡ min max (length (leading_bytes ends.0 ends.1 (front.now ++ back.now))) }
+    requires { vec_len out.old + min max (length front.now + length back.now)
+        ≤ vec_capacity out.old }
+    ensures count { result ≡
+        min max (length (leading_bytes ends.0 ends.1 (front.now ++ back.now))) }
     ensures items { out.new.items ≡
         out.old.items ++ take result (leading_bytes ends.0 ends.1 (front.now ++ back.now)) }
     ensures len { vec_len out.new ≡ vec_len out.old + result }
