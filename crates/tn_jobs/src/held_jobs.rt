@@ -140,7 +140,8 @@ impl Table {
     /// - `NoSuchJob`: the number is not held.
     pub fn stopped(&mut self, id: JobId, why: Why) -> Result<(), JobFault>
         ensures fault { result_err result ≡ stopped_fault self.old id.0 }
-        ensures ok { OnOk result (self.new ≡ with_state self.old id.0 (Some (JobState.Stopped why))) }
+        ensures ok { OnOk result
+            (self.new ≡ with_state self.old id.0 (Some (JobState.Stopped why))) }
         ensures err { OnErr result (self.new ≡ self.old) }
     {
         match self.state(id) {
@@ -190,7 +191,8 @@ impl Table {
 
     fn set(&mut self, id: JobId, state: JobState)
         requires held { IsSome (state_at self.old id.0) }
-        requires one_foreground { IsTrue (is_foreground (Some state)) → IsFalse (has_foreground self.old) }
+        requires one_foreground { IsTrue (is_foreground (Some state)) →
+            IsFalse (has_foreground self.old) }
         requires not_ended { state ≢ JobState.Ended }
         ensures { self.new ≡ with_state self.old id.0 (Some state) }
     {
