@@ -114,7 +114,8 @@ fn settle(
 ) -> ClientPorts
     requires { IsSeatAt (sends_on to.now) pass × IsSeatAt (sends_on to.now) net ×
         IsSeatAt (sends_on to.now) keys }
-    ensures settled { AreTwoSettled (view pass) (view net) (view keys) (view result.net) (view result.keys)
+    ensures settled { AreTwoSettled (view pass) (view net) (view keys)
+        (view result.net) (view result.keys)
         (view result.core) }
     ensures told { result.told ≡ told }
     ensures transcript { result.transcript ≡ transcript }
@@ -174,7 +175,8 @@ where
         StandsBeside beside.ends beside.pass beside.watched.stops beside.started.net.promise
         beside.started.keys.promise) }
     ensures net { IfSome result (λ beside. beside.started.net.promise.reader.value ≡ readers.net) }
-    ensures keys { IfSome result (λ beside. beside.started.keys.promise.reader.value ≡ readers.keys) }
+    ensures keys { IfSome result
+        (λ beside. beside.started.keys.promise.reader.value ≡ readers.keys) }
     ensures unwritten { IfSome result (λ _. writer.new ≡ writer.old) }
 {
     let Mailbox {
@@ -231,14 +233,16 @@ where
     W: Finish,
     S: Drain,
     G: Gate + Drop,
-    requires stands { StandsBeside beside.ends beside.pass beside.watched.stops beside.started.net.promise
+    requires stands { StandsBeside beside.ends beside.pass beside.watched.stops
+        beside.started.net.promise
         beside.started.keys.promise }
     ensures fault { IfErr result (λ fault. fault ≡ SessionFault.Channel) }
     ensures ran { IfOk result (λ r.
         IsClientRun core.old
         (known_typing K.remaining K.foretold K.sizes K.words K.controls
         beside.started.keys.promise.reader.value)
-        (known_reader N.remaining N.foretold N.sizes N.words beside.started.net.promise.reader.value)
+        (known_reader N.remaining N.foretold N.sizes N.words
+        beside.started.net.promise.reader.value)
         (known_writing W.contents W.told writer.old writer.new)
         (known_writing S.contents S.told screen.old screen.new) (client_result r.0 r.1)) }
     ensures finished { IfOk result (λ r. IsFinished (W.sending writer.old) (W.sending writer.new)) }
@@ -311,7 +315,8 @@ where
         (known_reader N.remaining N.foretold N.sizes N.words net_reader)
         (known_writing W.contents W.told net_writer.old net_writer.new)
         (known_writing S.contents S.told screen.old screen.new) (client_result r.0 r.1)) }
-    ensures finished { IfOk result (λ r. IsFinished (W.sending net_writer.old) (W.sending net_writer.new)) }
+    ensures finished { IfOk result
+        (λ r. IsFinished (W.sending net_writer.old) (W.sending net_writer.new)) }
 {
     let Ok(mut core) = Core::start(alloc, width, height, limit) else {
         return Err(SessionFault::Memory);

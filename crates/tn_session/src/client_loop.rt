@@ -176,7 +176,8 @@ pub(crate) fn run_core<R: Wait, W: Finish, S: Drain, G: Gate>(
     screen: &mut S,
     watched: &mut Watched<G>,
 ) -> Option<Transcript>
-    requires mailbox { IsSeatAt (receives_on from.now) pass.old × ((view pass.old).handled ≡ Some []) }
+    requires mailbox { IsSeatAt (receives_on from.now) pass.old ×
+        ((view pass.old).handled ≡ Some []) }
     requires stops { IsSeatAt (sends_on watched.old.stops.to) watched.old.stops.pass ×
         (view watched.old.stops.pass ≡ putter []) }
     ensures mailbox { IfSome result (λ _. IsSeatAt (receives_on from.now) pass.new) }
@@ -185,7 +186,8 @@ pub(crate) fn run_core<R: Wait, W: Finish, S: Drain, G: Gate>(
         (known_writing W.contents W.told writer.old writer.new)
         (known_writing S.contents S.told screen.old screen.new) (noted_of transcript)
         (view watched.new.stops.pass) core.new) }
-    ensures finished { IfSome result (λ _. IsFinished (W.sending writer.old) (W.sending writer.new)) }
+    ensures finished { IfSome result
+        (λ _. IsFinished (W.sending writer.old) (W.sending writer.new)) }
     ensures stops { IfSome result (λ _. (watched.new.stops.to ≡ watched.old.stops.to) ×
         IsSeatAt (sends_on watched.new.stops.to) watched.new.stops.pass) }
 {

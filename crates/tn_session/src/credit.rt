@@ -51,7 +51,8 @@ impl CreditGiver {
     fn give<R: Wait>(&mut self, rt: &R)
         requires seat { IsSeatAt (sends_on self.old.to) self.old.pass }
         ensures seat { IsSeatAt (sends_on self.new.to) self.new.pass }
-        ensures counted { length (view self.new.pass).given ≤ length (view self.old.pass).given + 1 }
+        ensures counted { length (view self.new.pass).given
+            ≤ length (view self.old.pass).given + 1 }
     {
         match self.to.send_as::<Gives, R>(rt, &mut self.pass, Credit) {
             Ok(()) | Err(_) => {},

@@ -23,7 +23,8 @@ pub(crate) fn settle(
     transcript: Transcript,
 ) -> Ports
     requires mailbox { IsSeatAt (sends_on ends.now.to) passes.mails ×
-        IsSeatAt (sends_on ends.now.to) returned.net × IsSeatAt (sends_on ends.now.to) returned.desk ×
+        IsSeatAt (sends_on ends.now.to) returned.net ×
+        IsSeatAt (sends_on ends.now.to) returned.desk ×
         IsSeatAt (sends_on ends.now.to) returned.back.pass }
     requires entries { IsSeatAt (sends_on ends.now.put) passes.hand ×
         IsSeatAt (sends_on ends.now.put) returned.took }

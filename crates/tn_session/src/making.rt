@@ -56,7 +56,8 @@ fn make_more<J: Job>(mut made: Made<J>, job: J) -> Result<Made<J>, SessionFault>
     ensures one { IfOk result (λ more.
         length (ids_of more.queue.items) ≡ length (ids_of made.queue.items) + 1) }
     ensures first { IfOk result (λ more. more.job ≡ made.job) }
-    ensures next { IfOk result (λ more. jobs_of more.queue.items ≡ jobs_of made.queue.items ++ job ∷ []) }
+    ensures next { IfOk result
+        (λ more. jobs_of more.queue.items ≡ jobs_of made.queue.items ++ job ∷ []) }
     ensures fault { IfErr result (λ fault. fault ≡ SessionFault.Memory) }
 {
     let Ok(id) = made.table.add() else {

@@ -146,7 +146,8 @@ fn begin<M: Maker + Drop>(
     ensures fault { IfErr result (IsMakerFault (M.left maker)) }
     ensures begun { IfOk result (λ begun.
         IsBegun M.Job.fresh
-        (record { canon = record { settings = settings; limit = limit }; approach = approach }) begun) }
+        (record { canon = record { settings = settings; limit = limit }; approach = approach })
+        begun) }
     ensures all { IfOk result (λ begun. AreAll (M.left maker) (ids_of begun.posts.queue.items)) }
     ensures in_order { IfOk result (λ begun.
         GivesJobs M.gives maker (begun.posts.job ∷ jobs_of begun.posts.queue.items)) }
@@ -231,7 +232,8 @@ where
         (receives_on started.desk.promise.from.value ≡ sends_on ends.put) }
     requires back { sends_on started.back.promise.to.value ≡ sends_on ends.to }
     requires out { output.out.items ≡ [] }
-    requires stops { IfSome started.back.promise.stops.value (λ seat. AreNewStops watched.stops seat) }
+    requires stops { IfSome started.back.promise.stops.value
+        (λ seat. AreNewStops watched.stops seat) }
     requires teller { IsSeatAt (sends_on watched.stops.to) watched.stops.pass ×
         (view watched.stops.pass ≡ putter []) }
     ensures fault { IfErr result (λ fault. fault ≡ SessionFault.Channel) }
@@ -244,7 +246,8 @@ where
           tostop = started.back.promise.tostop;
         })
         (known_reader Rd.remaining Rd.foretold Rd.sizes Rd.words started.net.promise.reader.value)
-        (known_writing W.contents W.told writer.old writer.new) (noted_of output.transcript) term.old
+        (known_writing W.contents W.told writer.old writer.new)
+        (noted_of output.transcript) term.old
         (session_result r.0 r.1)) }
     ensures in_reach { IfOk result (λ r. StaysInReach term.old r.0.ended) }
     ensures finished { IfOk result (λ r. IsFinished (W.sending writer.old) (W.sending writer.new)) }
@@ -362,10 +365,12 @@ where
     requires stops { StopsStay (Some back.stops) (Some back.stops) }
     requires credits { IsSeatAt (receives_on back.credits.seat.from) back.credits.seat.pass }
     requires fresh { J.fresh posts.job × IsQueue J.fresh posts.queue.items }
-    ensures desk { IfOk result (λ jobs. (sends_on jobs.desk.promise.to.value ≡ sends_on desk.seat.to) ×
+    ensures desk { IfOk result
+        (λ jobs. (sends_on jobs.desk.promise.to.value ≡ sends_on desk.seat.to) ×
         (receives_on jobs.desk.promise.from.value ≡ receives_on desk.entries.from) ×
         (jobs.desk.promise.id ≡ posts.first) × (jobs.desk.promise.job.value ≡ posts.job)) }
-    ensures back { IfOk result (λ jobs. (sends_on jobs.back.promise.to.value ≡ sends_on back.seat.to) ×
+    ensures back { IfOk result
+        (λ jobs. (sends_on jobs.back.promise.to.value ≡ sends_on back.seat.to) ×
         (jobs.back.promise.queue.value ≡ posts.queue) × (jobs.back.promise.tostop ≡ posts.tostop) ×
         (jobs.back.promise.stops.value ≡ Some back.stops)) }
 {
@@ -420,7 +425,8 @@ where
           tostop = posts.tostop;
         })
         (known_reader Rd.remaining Rd.foretold Rd.sizes Rd.words reader)
-        (known_writing W.contents W.told writer.old writer.new) (noted_of output.transcript) term.old
+        (known_writing W.contents W.told writer.old writer.new)
+        (noted_of output.transcript) term.old
         (session_result r.0 r.1)) }
     ensures in_reach { IfOk result (λ r. StaysInReach term.old r.0.ended) }
     ensures finished { IfOk result (λ r. IsFinished (W.sending writer.old) (W.sending writer.new)) }
@@ -536,7 +542,8 @@ where
     ensures fault { IfErr result IsRefusal }
     ensures none { M.left maker ≡ Some 0 → IsErrOf result SessionFault.Start }
     ensures ran { IfOk result (λ r.
-        RunningSession (job_facts (begins M.Job.fresh M.gives maker) M.Job.reacts M.Job.steps M.Job.refuses)
+        RunningSession
+        (job_facts (begins M.Job.fresh M.gives maker) M.Job.reacts M.Job.steps M.Job.refuses)
         (M.left maker)
         (record {
           canon = record { settings = settings; limit = limit };
@@ -578,7 +585,8 @@ where
     ensures fault { IfErr result IsRefusal }
     ensures none { M.left maker ≡ Some 0 → IsErrOf result SessionFault.Start }
     ensures ran { IfOk result (λ r.
-        RunningSession (job_facts (begins M.Job.fresh M.gives maker) M.Job.reacts M.Job.steps M.Job.refuses)
+        RunningSession
+        (job_facts (begins M.Job.fresh M.gives maker) M.Job.reacts M.Job.steps M.Job.refuses)
         (M.left maker)
         (record { canon = record { settings = settings; limit = limit }; approach = approach })
         (known_reader Rd.remaining Rd.foretold Rd.sizes Rd.words reader)

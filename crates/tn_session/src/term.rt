@@ -157,7 +157,8 @@ fn turn<R: Wait, W: Finish, G: Gate>(
     ensures out { output.new.out.items ≡ [] }
     ensures turned { IfSome result (λ _.
         TurnsMessage term.old message (known_writing W.contents W.told writer.old writer.new)
-        (noted_of output.old.transcript) (noted_of output.new.transcript) (view hand.old) (view hand.new)
+        (noted_of output.old.transcript) (noted_of output.new.transcript)
+        (view hand.old) (view hand.new)
         term.new) }
     ensures going { StaysOpen (W.sending writer.old) (W.sending writer.new) }
     ensures silent { IsTrue term.old.progress.over → W.sending writer.new ≡ W.sending writer.old }
@@ -226,10 +227,12 @@ pub(crate) fn run_term<R: Wait, W: Finish, G: Gate>(
 ) -> Option<()>
     requires mailbox { IsSeatAt (receives_on ends.now.from) passes.old.mails ×
         ((view passes.old.mails).handled ≡ Some []) }
-    requires entries { (l : List (Option EntryT)) × IsSeatAt (sends_on ends.now.put) passes.old.hand ×
+    requires entries { (l : List (Option EntryT)) ×
+        IsSeatAt (sends_on ends.now.put) passes.old.hand ×
         (view passes.old.hand ≡ putter l) }
     requires credits { IsSeatAt (sends_on ends.now.give) passes.old.give }
-    requires step_credits { IsSeatAt (sends_on passes.old.step_credits.to) passes.old.step_credits.pass }
+    requires step_credits { IsSeatAt (sends_on passes.old.step_credits.to)
+        passes.old.step_credits.pass }
     requires out { output.old.out.items ≡ [] }
     requires stops { IsSeatAt (sends_on watched.old.stops.to) watched.old.stops.pass ×
         (view watched.old.stops.pass ≡ putter []) }
@@ -238,14 +241,18 @@ pub(crate) fn run_term<R: Wait, W: Finish, G: Gate>(
     ensures acted { IfSome result (λ _.
         HandlesAll term.old (view passes.old.mails) (view passes.new.mails) (view passes.old.hand)
         (view passes.new.hand) (known_writing W.contents W.told writer.old writer.new)
-        (noted_of output.old.transcript) (noted_of output.new.transcript) (view watched.new.stops.pass)
+        (noted_of output.old.transcript) (noted_of output.new.transcript)
+        (view watched.new.stops.pass)
         term.new) }
-    ensures credits { IfSome result (λ _. GivesCredits (view passes.old.mails) (view passes.new.mails)
+    ensures credits { IfSome result
+        (λ _. GivesCredits (view passes.old.mails) (view passes.new.mails)
         (view passes.old.give) (view passes.new.give)) }
     ensures step_credits { IfSome result (λ _. GivesStepCredits (view passes.old.mails)
-        (view passes.new.mails) (view passes.old.step_credits.pass) (view passes.new.step_credits.pass)) }
+        (view passes.new.mails) (view passes.old.step_credits.pass)
+        (view passes.new.step_credits.pass)) }
     ensures in_reach { IfSome result (λ _. StaysInReach term.old term.new.progress.ended) }
-    ensures finished { IfSome result (λ _. IsFinished (W.sending writer.old) (W.sending writer.new)) }
+    ensures finished { IfSome result
+        (λ _. IsFinished (W.sending writer.old) (W.sending writer.new)) }
     ensures stops { IfSome result (λ _. (watched.new.stops.to ≡ watched.old.stops.to) ×
         IsSeatAt (sends_on watched.new.stops.to) watched.new.stops.pass) }
 {

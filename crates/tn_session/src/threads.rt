@@ -117,11 +117,13 @@ pub(crate) fn start_reader<
     credits: Option<CreditSeat>,
     stops: Option<StopSeat>,
 ) -> Option<PromisedHandle<Option<ThreadLeft>, ReaderSays<Rd>>>
-    requires mailbox { IsSeatAt (sends_on seat.to) seat.pass × (view seat.pass ≡ sender part.who []) }
+    requires mailbox { IsSeatAt (sends_on seat.to) seat.pass ×
+        (view seat.pass ≡ sender part.who []) }
     requires credits { IsSeated credits }
     requires stops { StopsStay stops stops }
     ensures { IfSome result (λ h. (sends_on h.promise.to.value ≡ sends_on seat.to) ×
-        (h.promise.reader.value ≡ reader) × (h.promise.who ≡ part.who) × (h.promise.stops.value ≡ stops) ×
+        (h.promise.reader.value ≡ reader) × (h.promise.who ≡ part.who) ×
+        (h.promise.stops.value ≡ stops) ×
         (h.promise.job ≡ part.job)) }
 {
     let promise = ReaderSays {
@@ -136,7 +138,8 @@ pub(crate) fn start_reader<
             IsSeated credits × StopsStay stops stops }
         ensures { IfSome result (λ left. IsSeatAt (sends_on seat.to) left.pass ×
             TypingSends part.who part.job (has_stopped left.stops)
-            (known_typing Rd.remaining Rd.foretold Rd.sizes Rd.words Rd.controls reader) (view left.pass) ×
+            (known_typing Rd.remaining Rd.foretold Rd.sizes Rd.words Rd.controls reader)
+            (view left.pass) ×
             StopsStay stops left.stops) }
     {
         let mut seat = seat;
@@ -283,7 +286,8 @@ pub(crate) fn start_back<
             IsQueue J.fresh queue.items × StopsStay stops stops ×
             IsSeatAt (receives_on credits.seat.from) credits.seat.pass }
         ensures { IfSome result (λ left. IsSeatAt (sends_on seat.to) left.pass ×
-            AreSteps (Holds queue.items) (job_acts J.reacts J.steps J.refuses) (queue_of tostop queue.items)
+            AreSteps (Holds queue.items) (job_acts J.reacts J.steps J.refuses)
+            (queue_of tostop queue.items)
             (has_stopped left.stops) (view left.pass) × StopsStay stops left.stops) }
     {
         let mut seat = seat;
@@ -331,7 +335,8 @@ impl<Rd: Source, J: Job> Started<Rd, J> {
     /// Joins all threads. It returns `None` if a channel of one was disconnected.
     pub(crate) fn join<R: Threads + Wait>(self, rt: &R) -> Option<Returned>
         ensures net { IfSome result (λ r. IsSeatAt (sends_on self.net.promise.to.value) r.net ×
-            (self.net.promise.stops.value ≡ None → TypingSends self.net.promise.who self.net.promise.job false
+            (self.net.promise.stops.value ≡ None →
+            TypingSends self.net.promise.who self.net.promise.job false
             (known_typing Rd.remaining Rd.foretold Rd.sizes Rd.words Rd.controls
             self.net.promise.reader.value)
             (view r.net))) }
@@ -340,9 +345,12 @@ impl<Rd: Source, J: Job> Started<Rd, J> {
             IsTalk self.desk.promise.id (IsJob self.desk.promise.job.value)
             (job_acts J.reacts J.steps J.refuses)
             (view r.desk) (view r.took)) }
-        ensures back { IfSome result (λ r. IsSeatAt (sends_on self.back.promise.to.value) r.back.pass ×
-            AreSteps (Holds self.back.promise.queue.value.items) (job_acts J.reacts J.steps J.refuses)
-            (queue_of self.back.promise.tostop self.back.promise.queue.value.items) (has_stopped r.back.stops)
+        ensures back { IfSome result
+            (λ r. IsSeatAt (sends_on self.back.promise.to.value) r.back.pass ×
+            AreSteps (Holds self.back.promise.queue.value.items)
+            (job_acts J.reacts J.steps J.refuses)
+            (queue_of self.back.promise.tostop self.back.promise.queue.value.items)
+            (has_stopped r.back.stops)
             (view r.back.pass)) }
         ensures stays { IfSome result (λ r. StopsStay self.back.promise.stops.value r.back.stops) }
     {
@@ -382,12 +390,16 @@ impl<N: Source, K: Source> ClientStarted<N, K> {
     /// Joins both threads. It returns `None` if the mailbox of one was disconnected.
     pub(crate) fn join<R: Threads + Wait>(self, rt: &R) -> Option<ClientReturned>
         ensures net { IfSome result (λ r. IsSeatAt (sends_on self.net.promise.to.value) r.net ×
-            (self.net.promise.stops.value ≡ None → TypingSends self.net.promise.who self.net.promise.job false
-            (known_typing N.remaining N.foretold N.sizes N.words N.controls self.net.promise.reader.value)
+            (self.net.promise.stops.value ≡ None →
+            TypingSends self.net.promise.who self.net.promise.job false
+            (known_typing N.remaining N.foretold N.sizes N.words N.controls
+            self.net.promise.reader.value)
             (view r.net))) }
-        ensures keys { IfSome result (λ r. IsSeatAt (sends_on self.keys.promise.to.value) r.keys.pass ×
+        ensures keys { IfSome result
+            (λ r. IsSeatAt (sends_on self.keys.promise.to.value) r.keys.pass ×
             TypingSends self.keys.promise.who self.keys.promise.job (has_stopped r.keys.stops)
-            (known_typing K.remaining K.foretold K.sizes K.words K.controls self.keys.promise.reader.value)
+            (known_typing K.remaining K.foretold K.sizes K.words K.controls
+            self.keys.promise.reader.value)
             (view r.keys.pass)) }
         ensures stays { IfSome result (λ r. StopsStay self.keys.promise.stops.value r.keys.stops) }
     {

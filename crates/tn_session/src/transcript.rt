@@ -152,7 +152,8 @@ impl Output {
     /// dropped.
     pub(crate) fn write_out<W: Drain>(&mut self, writer: &mut W) -> bool
         ensures out { self.new.out.items ≡ [] }
-        ensures writes { NotesWrite result (W.contents writer.old) (W.contents writer.new) self.old.out.items
+        ensures writes { NotesWrite result (W.contents writer.old) (W.contents writer.new)
+            self.old.out.items
             (noted_of self.old.transcript) (noted_of self.new.transcript) }
         ensures tells { Tells result (W.told writer.old) (W.told writer.new) }
         ensures none { self.old.out.items ≡ [] → IsTrue result }

@@ -58,7 +58,8 @@ enum Turn {
 }
 
 fn advance<J: Job>(queue: &mut VecDeque<Runner<J>>, alloc: Global, tostop: bool) -> Turn
-    ensures { TakesTurn (job_acts J.reacts J.steps J.refuses) tostop queue.old.items result queue.new.items }
+    ensures { TakesTurn (job_acts J.reacts J.steps J.refuses) tostop
+        queue.old.items result queue.new.items }
 {
     let Some(Runner { id, mut job }) = queue.pop_front() else {
         return Turn::Idle;
@@ -88,7 +89,8 @@ pub fn run_back<P: Post, J: Job, G: Gate>(
     stops: &mut Option<StopSeat>,
     credits: &mut StepCredits,
 ) -> Option<()>
-    requires mailbox { IsSeatAt (sends_on seat.old.to) seat.old.pass × (view seat.old.pass ≡ sender Back []) }
+    requires mailbox { IsSeatAt (sends_on seat.old.to) seat.old.pass ×
+        (view seat.old.pass ≡ sender Back []) }
     requires jobs { IsQueue J.fresh queue.items }
     requires stops { StopsStay stops.old stops.old }
     requires credits { IsSeatAt (receives_on credits.old.seat.from) credits.old.seat.pass }
@@ -97,7 +99,8 @@ pub fn run_back<P: Post, J: Job, G: Gate>(
         (job_acts J.reacts J.steps J.refuses) (queue_of tostop queue.items) (has_stopped stops.new)
         (view seat.new.pass)) }
     ensures stays { StopsStay stops.old stops.new }
-    ensures credited { IfSome result (λ _. (mails : List MailT) → view seat.new.pass ≡ sender Back mails →
+    ensures credited { IfSome result
+        (λ _. (mails : List MailT) → view seat.new.pass ≡ sender Back mails →
         HaveUsed (steps_among mails) credits.old credits.new) }
 {
     for _ in 0..u64::MAX {

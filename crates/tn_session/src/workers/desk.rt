@@ -28,12 +28,14 @@ pub fn run_desk<P: Post, J: Job, G: Gate>(
     mut job: J,
     gate: &G,
 ) -> Option<()>
-    requires mailbox { IsSeatAt (sends_on seat.old.to) seat.old.pass × (view seat.old.pass ≡ sender Desk []) }
+    requires mailbox { IsSeatAt (sends_on seat.old.to) seat.old.pass ×
+        (view seat.old.pass ≡ sender Desk []) }
     requires entries { IsSeatAt (receives_on entries.old.from) entries.old.pass ×
         (view entries.old.pass ≡ taker []) }
     requires fresh { J.fresh job }
     ensures mailbox { IfSome result (λ _. IsSeatAt (sends_on seat.old.to) seat.new.pass) }
-    ensures entries { IfSome result (λ _. IsSeatAt (receives_on entries.old.from) entries.new.pass) }
+    ensures entries { IfSome result
+        (λ _. IsSeatAt (receives_on entries.old.from) entries.new.pass) }
     ensures talk { IfSome result (λ _. IsTalk id (IsJob job) (job_acts J.reacts J.steps J.refuses)
         (view seat.new.pass) (view entries.new.pass)) }
 {

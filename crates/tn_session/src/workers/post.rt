@@ -31,7 +31,8 @@ pub trait Post {
         requires seat { IsSeatAt (receives_on from.now) hand.old }
         requires role { (l : List (Option EntryT)) × (view hand.old ≡ taker l) }
         ensures seat { IsSeatAt (receives_on from.now) hand.new }
-        ensures took { IfSome result (λ entry. (l : List (Option EntryT)) → view hand.old ≡ taker l →
+        ensures took { IfSome result
+            (λ entry. (l : List (Option EntryT)) → view hand.old ≡ taker l →
             view hand.new ≡ taker (l ++ entry ∷ [])) };
 
     /// Takes a credit.

@@ -99,7 +99,8 @@ fn tell_control<P: Post, Rd: Source>(
     requires seat { IsSeatAt (sends_on to.now) pass.old }
     requires role { (l : List MailT) × (view pass.old ≡ sender who l) }
     ensures seat { IsSeatAt (sends_on to.now) pass.new }
-    ensures told { IfSome result (λ _. SaysControl who (Rd.controls reader.old) (Rd.controls reader.new)
+    ensures told { IfSome result
+        (λ _. SaysControl who (Rd.controls reader.old) (Rd.controls reader.new)
         (view pass.old) (view pass.new)) }
     ensures bytes { Rd.remaining reader.new ≡ Rd.remaining reader.old }
     ensures foretold { Rd.foretold reader.new ≡ Rd.foretold reader.old }
@@ -125,7 +126,8 @@ fn tell_beside<P: Post, Rd: Source>(
     ensures seat { IsSeatAt (sends_on to.now) pass.new }
     ensures told { IfSome result (λ _. SaysBeside who
         (known_typing Rd.remaining Rd.foretold Rd.sizes Rd.words Rd.controls reader.old)
-        (known_typing Rd.remaining Rd.foretold Rd.sizes Rd.words Rd.controls reader.new) (view pass.old)
+        (known_typing Rd.remaining Rd.foretold Rd.sizes Rd.words Rd.controls reader.new)
+        (view pass.old)
         (view pass.new)) }
 {
     tell_size(post, to, pass, who, reader)?;
@@ -140,7 +142,8 @@ fn last_words<Rd: Source>(
     reader: &Rd,
     last: &Message,
 ) -> Result<Option<Message>, AllocError>
-    ensures { IfOk result (λ said. SaysLast job (Rd.words reader.now) last.now (option_to_list said)) }
+    ensures { IfOk result
+        (λ said. SaysLast job (Rd.words reader.now) last.now (option_to_list said)) }
 {
     let (Some(job), Message::HangUp) = (job, last) else {
         return Ok(None);
@@ -232,7 +235,8 @@ pub fn run_reader<P: Post, Rd: Source + Drop, G: Gate>(
     requires stops { StopsStay stops.old stops.old }
     ensures seat { IfSome result (λ _. IsSeatAt (sends_on seat.old.to) seat.new.pass) }
     ensures sent { IfSome result (λ _. TypingSends part.now.who part.now.job (has_stopped stops.new)
-        (known_typing Rd.remaining Rd.foretold Rd.sizes Rd.words Rd.controls reader) (view seat.new.pass)) }
+        (known_typing Rd.remaining Rd.foretold Rd.sizes Rd.words Rd.controls reader)
+        (view seat.new.pass)) }
     ensures stays { StopsStay stops.old stops.new }
     ensures credited { IfSome result (λ _. (mails : List MailT) →
         view seat.new.pass ≡ sender part.now.who mails →
