@@ -153,7 +153,8 @@ impl Talk {
         ready: &mut A,
         screen: &mut S,
     ) -> Result<(), TalkFault>
-        ensures { OnOk result (ShowsBytes piece.now (S.contents screen.old) (A.warned ready.old) self.old
+        ensures { OnOk result
+            (ShowsBytes piece.now (S.contents screen.old) (A.warned ready.old) self.old
             (S.contents screen.new) (A.warned ready.new) self.new) }
     {
         listen(&mut self.opening, piece, ready);
@@ -230,7 +231,8 @@ impl Talk {
             (streams (K.remaining keys.new) (N.remaining service.new) (W.contents writer.new)
             (S.contents screen.new) (A.warned ready.new)) self.new) }
         ensures ends { IfOk result (λ over. Ends over (N.remaining service.new)
-            (N.foretold service.old) (N.foretold service.new) (W.told writer.old) (W.told writer.new)) }
+            (N.foretold service.old) (N.foretold service.new)
+            (W.told writer.old) (W.told writer.new)) }
     {
         match ready.next(self.wants()) {
             Ready::Keys => {
@@ -275,7 +277,8 @@ impl Talk {
             (S.contents screen.old) (A.warned ready.old)) self.old
             (streams (K.remaining keys.new) (N.remaining service.new) (W.contents writer.new)
             (S.contents screen.new) (A.warned ready.new)) self.new) }
-        ensures talked { (line_end : LineEnd) (at_terminal : Bool) → Begins line_end at_terminal self.old →
+        ensures talked { (line_end : LineEnd) (at_terminal : Bool) →
+            Begins line_end at_terminal self.old →
             OnOk result (Talked line_end at_terminal
             (bytes_in self.new.typed) (bytes_in self.new.heard) self.new.waiting
             (streams (K.remaining keys.old) (N.remaining service.old) (W.contents writer.old)
