@@ -100,7 +100,8 @@ fn print_pieces<R: Source, W: Drain>(
     ensures err { OnErr result (DecodesSome (R.remaining reader.old) (R.remaining reader.new)
         (W.contents writer.old) (W.contents writer.new)) }
     ensures fault { IfErr result IsPrintFault }
-    ensures accounts { OnOk result (AccountsFor max_writes true (W.told writer.old) (W.told writer.new)) }
+    ensures accounts { OnOk result
+        (AccountsFor max_writes true (W.told writer.old) (W.told writer.new)) }
     ensures refused { IsErrOf result CliFault.Write →
         AccountsFor max_writes false (W.told writer.old) (W.told writer.new) }
 {
@@ -129,7 +130,8 @@ fn print_piece<W: Drain>(
     ensures err { OnErr result (StopsPiece decoding.old piece.now
         (W.contents writer.old) (W.contents writer.new)) }
     ensures fault { IfErr result IsPrintFault }
-    ensures accounts { OnOk result (AccountsFor max_writes true (W.told writer.old) (W.told writer.new)) }
+    ensures accounts { OnOk result
+        (AccountsFor max_writes true (W.told writer.old) (W.told writer.new)) }
     ensures refused { IsErrOf result CliFault.Write →
         AccountsFor max_writes false (W.told writer.old) (W.told writer.new) }
 {
@@ -138,7 +140,8 @@ fn print_piece<W: Drain>(
 }
 
 fn print_last<W: Drain>(decoding: &mut Decoding, writer: &mut W) -> Result<(), CliFault>
-    ensures ok { OnOk result (WritesLast decoding.old (W.contents writer.old) (W.contents writer.new)) }
+    ensures ok { OnOk result
+        (WritesLast decoding.old (W.contents writer.old) (W.contents writer.new)) }
     ensures err { OnErr result (StopsPiece decoding.old []
         (W.contents writer.old) (W.contents writer.new)) }
     ensures fault { IfErr result IsPrintFault }

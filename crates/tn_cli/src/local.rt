@@ -48,7 +48,8 @@ pub(crate) fn write_entries<W: Drain>(
     requires len { vec_len typing.printed ≡ 0 }
     requires room { max_printed ≤ vec_capacity typing.printed }
     ensures ok { OnOk result (PrintsKeys keys.now (W.contents writer.old) (W.contents writer.new)) }
-    ensures err { OnErr result (PrintsKeysPrefix keys.now (W.contents writer.old) (W.contents writer.new)) }
+    ensures err { OnErr result
+        (PrintsKeysPrefix keys.now (W.contents writer.old) (W.contents writer.new)) }
     ensures fault { IfErr result (λ fault. fault ≡ CliFault.Write) }
     ensures failed { OnErr result (HasFailed max_writes (W.told writer.old) (W.told writer.new)) }
 {

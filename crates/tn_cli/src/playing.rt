@@ -65,7 +65,8 @@ fn perform(
     out: &mut Vec<u8>,
 ) -> Result<(), Stop>
     ensures ok { OnOk result
-        (play.Prints (play.RunsCommand world.old command.now) out.old.items out.new.items world.new) }
+        (play.Prints (play.RunsCommand world.old command.now)
+        out.old.items out.new.items world.new) }
     ensures refused { IsErrOf result Refused →
         play.RefusesCommand world.old command.now × (out.new.items ≡ out.old.items) }
     ensures not_bad { result ≢ Err Bad }
@@ -83,7 +84,8 @@ fn perform(
 
 fn type_keys(alloc: Global, world: &mut World, keys: &[u8]) -> Result<(), Stop>
     ensures ok { OnOk result (Runs world.old (map event.Key keys.now) world.new) }
-    ensures refused { IsErrOf result Refused → play.RefusesEvents world.old (map event.Key keys.now) }
+    ensures refused { IsErrOf result Refused →
+        play.RefusesEvents world.old (map event.Key keys.now) }
     ensures not_bad { result ≢ Err Bad }
 {
     let events = keys_typed(alloc, keys)?;
@@ -144,7 +146,8 @@ fn is_flight_empty(world: &World) -> bool
 }
 
 fn take(world: &mut World, out: &mut Vec<u8>) -> Result<(), Stop>
-    ensures ok { OnOk result (play.Prints (play.TakesOne world.old) out.old.items out.new.items world.new) }
+    ensures ok { OnOk result
+        (play.Prints (play.TakesOne world.old) out.old.items out.new.items world.new) }
     ensures refused { IsErrOf result Refused →
         play.RefusesEvents world.old (event.Take ∷ []) × (out.new.items ≡ out.old.items) }
     ensures not_bad { result ≢ Err Bad }
@@ -161,7 +164,8 @@ fn take(world: &mut World, out: &mut Vec<u8>) -> Result<(), Stop>
 }
 
 fn mark(world: &mut World, out: &mut Vec<u8>) -> Result<(), Stop>
-    ensures ok { OnOk result (play.Prints (play.PrintsMark world.old) out.old.items out.new.items world.new) }
+    ensures ok { OnOk result
+        (play.Prints (play.PrintsMark world.old) out.old.items out.new.items world.new) }
     ensures memory { IfErr result (λ stop. stop ≡ Memory) }
 {
     if world.mark() {
@@ -180,7 +184,8 @@ fn print_flight(world: &World, out: &mut Vec<u8>) -> Result<(), Stop>
 
 // Appends a name, and some bytes in hexadecimal or a dash.
 fn print_bytes(name: &[u8], bytes: &[u8], out: &mut Vec<u8>) -> Result<(), Stop>
-    ensures ok { OnOk result (out.new.items ≡ out.old.items ++ (name.now ++ play.printed_bytes bytes.now)) }
+    ensures ok { OnOk result
+        (out.new.items ≡ out.old.items ++ (name.now ++ play.printed_bytes bytes.now)) }
     ensures memory { IfErr result (λ stop. stop ≡ Memory) }
 {
     append(out, name)?;

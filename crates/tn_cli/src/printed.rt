@@ -39,7 +39,8 @@ pub(crate) fn print_entry(entry: &Entry, out: &mut Vec<u8>) -> Result<(), AllocE
 /// room.
 pub(crate) fn put_line(held: &[u8], last: Option<u8>, out: &mut Vec<u8>)
     requires { vec_len out.old + (2 * length held.now + 8) ≤ vec_capacity out.old }
-    ensures items { out.new.items ≡ out.old.items ++ printed_entry (line_of (with_byte held.now last)) }
+    ensures items { out.new.items ≡
+        out.old.items ++ printed_entry (line_of (with_byte held.now last)) }
     ensures capacity { vec_capacity out.old ≤ vec_capacity out.new }
 {
     match last {
@@ -109,7 +110,8 @@ fn with_text(out: Vec<u8>, bytes: &[u8], last: u8) -> Vec<u8>
 
 /// Appends bytes in hexadecimal, and a line feed.
 pub(crate) fn print_digits(bytes: &[u8], out: &mut Vec<u8>) -> Result<(), AllocError>
-    ensures { OnOk result (out.new.items ≡ out.old.items ++ (encode_lower bytes.now ++ codes "\n")) }
+    ensures { OnOk result
+        (out.new.items ≡ out.old.items ++ (encode_lower bytes.now ++ codes "\n")) }
 {
     out.reserve(2 * bytes.len() + 1)?;
     put_digits(bytes, out);

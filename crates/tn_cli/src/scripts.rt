@@ -174,7 +174,8 @@ fn sent(name: &[u8]) -> Option<Command>
 }
 
 fn counted(verb: &[u8], word: &[u8]) -> Option<Command>
-    ensures { result ≡ option_and_then (script.with_number verb.now) (script.number_within 1000000 word.now) }
+    ensures { result ≡
+        option_and_then (script.with_number verb.now) (script.number_within 1000000 word.now) }
 {
     let number = number_within(MAX_COUNTED, word)?;
     with_number(verb, number as usize)
@@ -251,7 +252,8 @@ fn with_size(verb: &[u8], width: u16, height: u16) -> Option<Command>
 }
 
 fn with_value(verb: &[u8], func: Func, bytes: &[u8]) -> Option<Command>
-    ensures { result ≡ option_and_then (script.with_character verb.now func) (script.character bytes.now) }
+    ensures { result ≡
+        option_and_then (script.with_character verb.now func) (script.character bytes.now) }
 {
     let value = character(bytes)?;
     with_character(verb, func, value)

@@ -86,10 +86,12 @@ fn if_whole(input: Vec<u8>, count: usize) -> Result<Vec<u8>, CliFault>
 /// Writes all of the output. After a fault, a prefix of it was written.
 pub(crate) fn write_whole<W: Drain>(writer: &mut W, output: &[u8]) -> Result<(), CliFault>
     ensures ok { OnOk result (Appends (W.contents writer.old) (W.contents writer.new) output.now) }
-    ensures err { OnErr result (AppendsPrefix (W.contents writer.old) (W.contents writer.new) output.now) }
+    ensures err { OnErr result
+        (AppendsPrefix (W.contents writer.old) (W.contents writer.new) output.now) }
     ensures fault { IfErr result (λ fault. fault ≡ CliFault.Write) }
     ensures failed { OnErr result (HasFailed max_writes (W.told writer.old) (W.told writer.new)) }
-    ensures accounts { AccountsFor max_writes (is_ok result) (W.told writer.old) (W.told writer.new) }
+    ensures accounts { AccountsFor max_writes (is_ok result)
+        (W.told writer.old) (W.told writer.new) }
 {
     match write_within(writer, output, u64::MAX) {
         Ok(_left) => Ok(()),
@@ -105,8 +107,10 @@ pub(crate) fn write_within<W: Drain>(
 ) -> Result<u64, CliFault>
     ensures ok { OnOk result (Appends (W.contents writer.old) (W.contents writer.new) output.now) }
     ensures left { IfOk result (λ left. left ≤ most) }
-    ensures made { IfOk result (λ left. HasMade (most - left) (W.told writer.old) (W.told writer.new)) }
-    ensures err { OnErr result (AppendsPrefix (W.contents writer.old) (W.contents writer.new) output.now) }
+    ensures made { IfOk result
+        (λ left. HasMade (most - left) (W.told writer.old) (W.told writer.new)) }
+    ensures err { OnErr result
+        (AppendsPrefix (W.contents writer.old) (W.contents writer.new) output.now) }
     ensures fault { IfErr result (λ fault. fault ≡ CliFault.Write) }
     ensures failed { OnErr result (HasFailed most (W.told writer.old) (W.told writer.new)) }
     ensures accounts { AccountsFor most (is_ok result) (W.told writer.old) (W.told writer.new) }

@@ -224,7 +224,8 @@ fn inside_iac(count: usize, byte: u8) -> (Stand, Dropped)
 
 // Returns the count after one more byte of a subnegotiation.
 fn longer(count: usize) -> usize
-    ensures { (bytes : List ℕ) (byte : ℕ) → IsCount count bytes → IsCount result (bytes ++ byte ∷ []) }
+    ensures { (bytes : List ℕ) (byte : ℕ) → IsCount count bytes →
+        IsCount result (bytes ++ byte ∷ []) }
 {
     if count < TOO_MANY {
         return count + 1;

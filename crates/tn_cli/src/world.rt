@@ -54,7 +54,8 @@ fn play_script(
     printed: &mut Vec<u8>,
 ) -> Result<Option<CliFault>, AllocError>
     ensures { IfOk result (λ end.
-        play.AppendsPrint (play.EndsWith (lines_of script.now) end) printed.old.items printed.new.items) }
+        play.AppendsPrint (play.EndsWith (lines_of script.now) end)
+        printed.old.items printed.new.items) }
 {
     let lines = parts(alloc, script, b'\n')?;
     play_lines(alloc, &lines, printed)
@@ -67,7 +68,8 @@ fn play_lines(
     printed: &mut Vec<u8>,
 ) -> Result<Option<CliFault>, AllocError>
     ensures { IfOk result (λ end. play.AppendsPrint
-        (play.EndsWith (map (λ line. line.now) lines.now) end) printed.old.items printed.new.items) }
+        (play.EndsWith (map (λ line. line.now) lines.now) end)
+        printed.old.items printed.new.items) }
 {
     match World::open(
         alloc,
@@ -90,7 +92,8 @@ fn play_in(
 ) -> Result<Option<CliFault>, AllocError>
     requires { IsOpened Opening.Keys standard 80 24 world.old }
     ensures { IfOk result (λ end. play.AppendsPrint
-        (play.EndsWith (map (λ line. line.now) lines.now) end) printed.old.items printed.new.items) }
+        (play.EndsWith (map (λ line. line.now) lines.now) end)
+        printed.old.items printed.new.items) }
 {
     for (index, line) in lines.iter().enumerate() {
         match play_line(alloc, world, line, printed) {
