@@ -23,7 +23,8 @@ pub fn what_you_type_over_a_connection_is_read<M: Maker>()
 /// the job reads the lines as they were edited.
 pub fn what_is_edited_in_lines_is_read<M: Maker>()
     ensures { (maker : M) →
-        ReadsEditedLines (job_facts (begins M.Job.fresh M.gives maker) M.Job.reacts M.Job.steps M.Job.refuses) }
+        ReadsEditedLines
+        (job_facts (begins M.Job.fresh M.gives maker) M.Job.reacts M.Job.steps M.Job.refuses) }
 {
     what_you_type_over_a_connection_is_read::<M>();
     whole_lines_give_the_entries();

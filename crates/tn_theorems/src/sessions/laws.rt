@@ -17,7 +17,8 @@ use tn_session::Maker;
 /// between them, and is all of them if both sessions ran to the end.
 pub fn what_you_type_is_what_the_job_reads<M: Maker>()
     ensures { (maker : M) →
-        Headline (job_facts (begins M.Job.fresh M.gives maker) M.Job.reacts M.Job.steps M.Job.refuses) }
+        Headline
+        (job_facts (begins M.Job.fresh M.gives maker) M.Job.reacts M.Job.steps M.Job.refuses) }
 {}
 
 /// No answer comes late: before its core takes the next message, each session has written all that
@@ -25,9 +26,9 @@ pub fn what_you_type_is_what_the_job_reads<M: Maker>()
 /// queue of its connection.
 pub fn no_answer_comes_late<M: Maker>()
     ensures server { (maker : M) (canon : Canon)
-        (s : Served (job_facts (begins M.Job.fresh M.gives maker) M.Job.reacts M.Job.steps M.Job.refuses)
-        canon) →
-        AnswersOfServer s }
+        (s : Served
+        (job_facts (begins M.Job.fresh M.gives maker) M.Job.reacts M.Job.steps M.Job.refuses)
+        canon) → AnswersOfServer s }
     ensures client { (limit : ℕ) (c : Connected limit) → AnswersOfClient c }
 {}
 
@@ -41,5 +42,6 @@ pub fn one_loop_reads_what_is_typed()
 /// The premises about two sessions can be met, and both can run to the end: a line is typed at the
 /// client, and taken by the job of a server that opens for keys.
 pub fn two_sessions_carry_a_line()
-    ensures { (editing : Editing) → SessionsCarryALine (record { opening = Keys; editing = editing }) }
+    ensures { (editing : Editing) →
+        SessionsCarryALine (record { opening = Keys; editing = editing }) }
 {}

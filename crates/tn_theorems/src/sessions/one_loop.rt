@@ -105,7 +105,8 @@ impl Joined {
         height: u16,
     ) -> Result<Joined, SessionFault>
         ensures start { IfOk result (λ joined.
-            IsStart (record { settings = settings; limit = limit }) approach table width height joined) }
+            IsStart (record { settings = settings; limit = limit })
+            approach table width height joined) }
         ensures fault { IfErr result (λ fault. fault ≡ SessionFault.Memory) }
     {
         let mut to_client = Vec::new(alloc);
