@@ -1,4 +1,4 @@
-// The same keys as the pairs of tn_bench, into a pseudoterminal of the kernel: as many lines as fit are written to the
+// Feeds a pseudoterminal of the kernel the keys that the pairs of tn_bench get: as many lines as fit are written to the
 // master at once, and read from the slave line by line; what is echoed is read from the master.
 //
 //   cc -O2 -o kernel_terminal tools/speed/kernel_terminal.c && ./kernel_terminal

@@ -1,4 +1,4 @@
-// The same streams as the decoder and the sending server of tn_bench, into libtelnet 0.21 (Debian: libtelnet-dev).
+// Feeds libtelnet 0.21 (Debian: libtelnet-dev) the streams that the decoder and the sending server of tn_bench get.
 //
 //   cc -O2 -o libtelnet tools/speed/libtelnet.c -ltelnet && ./libtelnet
 #include "measure.h"
