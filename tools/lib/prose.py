@@ -26,7 +26,7 @@ BEGINS_WITH_THE_SAME = re.compile(r"The same\b")
 
 LINK = re.compile(r"\]\(([^)#\s]*)(?:#([^)\s]*))?\)")
 CASE = re.compile(r"`(?!tn_)([a-z0-9]+(?:_[a-z0-9]+)+)`")
-WRITTEN = re.compile(r"<!-- (?:what the headline rests on).*?<!-- end of [^>]*>", re.S)
+WRITTEN = re.compile(r"<!-- (?:what the statement rests on).*?<!-- end of [^>]*>", re.S)
 
 
 def read(path):

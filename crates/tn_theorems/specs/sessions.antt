@@ -1,4 +1,6 @@
-pub mod Example
 pub mod Transcripts
+pub mod Returned
+pub mod Theorem
+pub mod Example
 pub mod Answers
 pub mod OneLoop

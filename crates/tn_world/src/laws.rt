@@ -44,7 +44,7 @@ pub fn headline_complete()
 {}
 
 /// While no end has failed, the ends and what is in flight between them are related as
-/// `docs/HEADLINE.md` describes.
+/// `docs/THEOREM.md` describes.
 pub fn relation_kept()
     ensures { (canon : Canon) (w : World) → Follows canon w → NoneFailed w → IsRelated canon w }
 {}

@@ -1,5 +1,5 @@
 //! Both ends and the two streams between them, and the promise about them: a line means the same
-//! wherever it was edited (`docs/HEADLINE.md`).
+//! wherever it was edited (`docs/THEOREM.md`).
 //!
 //! Begin with `World`, and `Event`, which is what may happen in one.
 //!

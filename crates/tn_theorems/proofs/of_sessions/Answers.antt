@@ -2,7 +2,7 @@
 use Rattle.std.proofs.Common.{◌≡◌, ◌⊎◌, inl, inr, ℕ, List, [], ◌∷◌, ◌++◌, refl, sym, ap, ◌∙◌, map, append_assoc, length, suc}
 use Rattle.std.specs.List.{FoldsTo}
 use Rattle.tn_discipline.specs.Canon.{Canon}
-use Rattle.tn_theorems.specs.sessions.{Answers.{AreAnswered, AnswersOfServer, AnswersOfClient}, Transcripts.{Served, Connected}}
+use Rattle.tn_theorems.specs.sessions.{Answers.{AreAnswered, AnswersOfServer, AnswersOfClient}, Returned.{Served, Connected}}
 use Rattle.tn_session.specs.{Facts.JobFacts, Transcripts.{Exchange, Point, IsExchange, Transcribes, all_wrote}}
 
 both : {A : Type 0} (a b : A) (us vs : List A) → a ∷ us ≡ b ∷ vs → (a ≡ b) × (us ≡ vs)

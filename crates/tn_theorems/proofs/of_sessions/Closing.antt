@@ -1,7 +1,6 @@
 -- In a client's session no key and no command comes once what the client sends goes nowhere.
 use Rattle.std.proofs.Common.{◌≡◌, ℕ, Bool, true, false, Option, List, [], ◌∷◌, ◌++◌, refl, sym, ap, ◌∙◌, subst, map, ⊎_elim}
 use Rattle.tn_client.specs.Events.{History, next, resized, gets}
-use Rattle.tn_client.specs.Events as client
 use Rattle.tn_cores.proofs.lemmas.client.Bringing.{inputs-gets}
 use Rattle.tn_cores.specs.{client.{Bringing.inputs, Commands.event_of, Marks.{Turns, Runs}}, streams.Foretelling.Failures}
 use Rattle.tn_cores.specs.{client.Counting.after_message, declared.client.messages.{Origin.{Origin, TheVariants.{Keys, Net}}, ClientMark.ClientMark, Told.Told}}

@@ -16,7 +16,7 @@ use Rattle.tn_discipline.specs.declared.reads.Entry.{Entry, TheVariants.Text}
 use Rattle.tn_jobs.specs.{Jobs.{Jobs, state_at}, declared.{held_jobs.JobId.JobId, reactions.Reaction.Reaction, verdicts.After.TheVariants.Stay}}
 use Rattle.tn_jobs.specs.declared.verdicts.JobState.TheVariants.{Foreground}
 use Rattle.tn_theorems.specs.sessions.Example as example
-use Rattle.tn_theorems.specs.sessions.Transcripts.{Step, served, told, server_steps, client_steps, IsCarried, Served, Connected, HasKey}
+use Rattle.tn_theorems.specs.sessions.{Returned.{Served, Connected}, Theorem.HasKey, Transcripts.{Step, served, told, server_steps, client_steps, IsCarried}}
 use Rattle.tn_cores.specs.declared.faults.Ended.TheVariants as ended
 use Rattle.tn_nvt.specs.{Stream.{spelled, IsPartial}, declared.items.Item.{Item, TheVariants.Byte}, Prefixes.IsPrefixOf}
 use Rattle.tn_option.specs.{Options.{state_of, options_after_wish, new_options}, QMethod.cell}

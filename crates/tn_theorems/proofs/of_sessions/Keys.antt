@@ -11,7 +11,7 @@ use Rattle.tn_nvt.specs.{Spelling.lf, Prefixes.IsPrefixOf}
 use Rattle.tn_discipline.proofs.lemmas.{Histories.entries-all, KeyRoles.roles_of-append}
 use Rattle.tn_discipline.specs.{Canon.{Canon, typed_entries}, Entries.{entries_of, half_of}, Characters.{Characters, standard_characters}, Steps.gain_all}
 use Rattle.tn_discipline.specs.{Keys.{roles_of, role_by_signal}, declared.{reads.Sig.TheVariants.Int, termios.{Flags.Flags, Settings.Settings}, keys.Role.Role}}
-use Rattle.tn_theorems.specs.sessions.Transcripts.{HasKey, key_of, keys_of}
+use Rattle.tn_theorems.specs.sessions.Theorem.{HasKey, key_of, keys_of}
 use Rattle.tn_session.specs.{workers.Mailbox.sender, declared.workers.{channels.View.View, mail.Mail.Mail}}
 use Rattle.tn_session.specs.declared.workers.mail.Sender.TheVariants as who
 use Rattle.tn_world.proofs.lemmas.Histories.{AreTypeable, keys_typed}

@@ -20,8 +20,8 @@ use Rattle.tn_jobs.specs.Jobs.{Jobs}
 use Rattle.tn_theorems.proofs.of_sessions.{Closing.{LeftLast, keys_messages, run_typed, tolds}, Hearing.heard_all, Joint.Both, Tying.{AreTied, ties}}
 use Rattle.tn_theorems.proofs.of_sessions.Keys.{HaveKeys, first_of_all, keys_of-append, more_entries, typeable, typed_as}
 use Rattle.tn_theorems.proofs.of_sessions.Transcripts.{client-append, holds, one_read, one_wrote, server-append}
-use Rattle.tn_theorems.specs.sessions.OneLoop.{Happens, IsStart, LoopReads, ReadsAll, ServesOne, TellsOne, from_network, from_user, inputs_by, inputs_of}
-use Rattle.tn_theorems.specs.sessions.Transcripts.{HasKey, Step, served, told, server_steps, client_steps, IsCarried, IsInTime, keys_of}
+use Rattle.tn_theorems.specs.sessions.OneLoop.{Happens, IsStart, TheoremOfOneLoop, ReadsAll, ServesOne, TellsOne, from_network, from_user, inputs_by, inputs_of}
+use Rattle.tn_theorems.specs.sessions.{Theorem.{HasKey, keys_of}, Transcripts.{Step, served, told, server_steps, client_steps, IsCarried, IsInTime}}
 use Rattle.tn_theorems.specs.declared.sessions.one_loop.{LoopEvent.{LoopEvent, TheVariants.{Typed, Asked, ToServer, ToClient, Take, Said}}, Joined.Joined}
 use Rattle.tn_cores.specs.declared.messages.Message.TheVariants as message
 use Rattle.tn_server.specs.Events as server
@@ -443,7 +443,7 @@ module _ (canon : Canon) (approach : Approach) (jobs : Jobs) (width height : ℕ
               (sym (append-nil d.1) ∙ ap (λ (l : List ℕ). d.1 ++ l) (sym (f.1.all written))) ∙ sym f.1.said in
               sym (append_assoc (cores.says a) d.1 (total ds)) ∙ ap (λ (l : List ℕ). l ++ total ds) one ∙ go ds f.0 b f.2 live
 
-pub loop_reads : LoopReads
+pub loop_reads : TheoremOfOneLoop
 loop_reads canon approach jobs width height first last script standard have start goes =
     reads_all canon approach jobs width height (inputs_of script) last standard have
     (all_happen canon approach jobs width height [] script first last (begins canon approach jobs width height first start) goes)

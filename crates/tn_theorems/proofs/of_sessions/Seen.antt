@@ -1,4 +1,4 @@
--- The headline over two transcripts that a socket carries.
+-- The theorem of two sessions, from two transcripts that a socket carries.
 use Rattle.std.proofs.Common.{◌≡◌, ℕ, All, Option, Some, None, List, [], ◌∷◌, ◌++◌, sym, ap, ◌∙◌, subst, map, append-nil}
 use Rattle.std.specs.Io.KnownBytes.{Consumes}
 use Rattle.tn_client.specs.Events as client
@@ -9,7 +9,8 @@ use Rattle.tn_discipline.specs.{Canon.{Canon, typed_entries}, Characters.standar
 use Rattle.tn_theorems.proofs.of_sessions.{Closing.inputs_sent, Hearing.heard_all, Transcripts.holds, Tying.{AreTied, ties}, Whole.goes_on_to_end}
 use Rattle.tn_theorems.proofs.of_sessions.Keys.{given_first, more_entries, one_list, keys_of-append, HaveKeys, typed_as, typeable, first_of_all, only_keys}
 use Rattle.tn_theorems.proofs.of_sessions.{Keys.none_told, Joint.{Both, LinesAreLocal, client_said}}
-use Rattle.tn_theorems.specs.sessions.Transcripts.{Served, Connected, IsCarried, RanToTheEnd, Headline, HasKey, keys_of, keys_at}
+use Rattle.tn_theorems.specs.sessions.{Returned.{Served, Connected, client_seen, server_seen}, Transcripts.{ClientSession, IsCarried, ServerSession}}
+use Rattle.tn_theorems.specs.sessions.Theorem.{HasKey, RanToTheEnd, ReadsWhatIsGiven, ReadsWhatIsTyped, TheoremOfSessions, keys_of}
 use Rattle.tn_server.specs.Events as server
 use Rattle.tn_server.specs.Lines.{entries}
 use Rattle.tn_session.proofs.lemmas.{Plain.plainly, Transcribing.prefix_trans}
@@ -68,18 +69,18 @@ module _ {J : Type 0} (facts : JobFacts J) (canon : Canon) (s : Served facts can
   local = ap (λ (ks : List ℕ). typed_entries canon ks) (typed_as canon.settings standard c.ran.run.sent have_keys
       ∙ ap (λ (xs : List Input). keys_of canon.settings xs) same_inputs)
 
-  keys_first : keys_at canon c ≡ typed_first ++ keys_of canon.settings c.ran.in_order.untyped
+  keys_first : keys_of canon.settings c.ran.inputs ≡ typed_first ++ keys_of canon.settings c.ran.in_order.untyped
   keys_first = ap (λ (xs : List Input). keys_of canon.settings xs) first_read ∙ keys_of-append canon.settings (inputs c.ran.run.history) c.ran.in_order.untyped
 
-  taken_first : IsPrefixOf s.ran.entries_taken (typed_entries canon (keys_at canon c))
+  taken_first : IsPrefixOf s.ran.entries_taken (typed_entries canon (keys_of canon.settings c.ran.inputs))
   taken_first =
       let h = entries s.ran.schedule.run.history in
       let ks = typed_entries canon typed_first in
       let front : IsPrefixOf s.ran.entries_taken h = (s.ran.in_order.0, ap (λ (l : List Entry). l ++ s.ran.in_order.0) s.ran.entries_are ∙ s.ran.in_order.1) in
       let mid : IsPrefixOf h ks = subst (λ (l : List Entry). IsPrefixOf h l) local lines.prefix in
-      prefix_trans s.ran.entries_taken h (typed_entries canon (keys_at canon c)) front
-      (prefix_trans h ks (typed_entries canon (keys_at canon c)) mid
-      (more_entries canon typed_first (keys_of canon.settings c.ran.in_order.untyped) (keys_at canon c) keys_first))
+      prefix_trans s.ran.entries_taken h (typed_entries canon (keys_of canon.settings c.ran.inputs)) front
+      (prefix_trans h ks (typed_entries canon (keys_of canon.settings c.ran.inputs)) mid
+      (more_entries canon typed_first (keys_of canon.settings c.ran.in_order.untyped) (keys_of canon.settings c.ran.inputs) keys_first))
 
   -- all that a client wrote is all that it sends, if it ended without a fault
   all_said : c.result.report.ended ≡ HangUp → all_wrote c.ran.transcript ≡ client_said last
@@ -87,13 +88,13 @@ module _ {J : Type 0} (facts : JobFacts J) (canon : Canon) (s : Served facts can
       let on = goes_on_to_end c.width c.height canon.limit c.ran.marked c.ran.run c.ran.runs (sym (ap (λ (r : Report). r.ended) c.ran.report_is) ∙ ended) in
       c.ran.was_written ∙ sym (c.ran.sends ∙ ap (λ (l : List ℕ). c.ran.written ++ l) (c.ran.sent_whole on) ∙ append-nil c.ran.written)
 
-  all_typed : c.result.report.ended ≡ HangUp → typed_first ≡ keys_at canon c
+  all_typed : c.result.report.ended ≡ HangUp → typed_first ≡ keys_of canon.settings c.ran.inputs
   all_typed ended =
       let on = goes_on_to_end c.width c.height canon.limit c.ran.marked c.ran.run c.ran.runs (sym (ap (λ (r : Report). r.ended) c.ran.report_is) ∙ ended) in
       sym (keys_first ∙ ap (λ (xs : List Input). typed_first ++ keys_of canon.settings xs) (c.ran.in_order.all on).0 ∙ append-nil typed_first)
 
   -- without commands the keys are those that were read
-  keys_alone : c.keys.controls ≡ Some [] → keys_at canon c ≡ c.ran.keys_read
+  keys_alone : c.keys.controls ≡ Some [] → keys_of canon.settings c.ran.inputs ≡ c.ran.keys_read
   keys_alone none = only_keys canon.settings c.ran.inputs (c.ran.asked_among ∙ none_told c.keys.controls _ none c.ran.were_asked) ∙ c.ran.keys_among
 
   taken_of : (given : List ℕ) → c.keys.reader.bytes ≡ Some given → c.keys.controls ≡ Some [] → IsPrefixOf s.ran.entries_taken (typed_entries canon given)
@@ -105,15 +106,42 @@ module _ {J : Type 0} (facts : JobFacts J) (canon : Canon) (s : Served facts can
       (subst (λ (ks : List ℕ). IsPrefixOf s.ran.entries_taken (typed_entries canon ks)) (keys_alone none) taken_first)
       (more_entries canon c.ran.keys_read more.0 given more.1)
 
-  taken_all : RanToTheEnd s c → s.ran.entries_taken ≡ typed_entries canon (keys_at canon c)
+  taken_all : RanToTheEnd (server_seen s) (client_seen c) → s.ran.entries_taken ≡ typed_entries canon (keys_of canon.settings c.ran.inputs)
   taken_all ran =
       s.ran.entries_are ∙ s.ran.all_taken ran.server
       ∙ lines.complete (s.ran.heard_whole ran.server ∙ ran.whole ∙ all_said ran.client)
       ∙ local ∙ ap (λ (ks : List ℕ). typed_entries canon ks) (all_typed ran.client)
 
-pub headline : {J : Type 0} (facts : JobFacts J) → Headline facts
-headline facts canon s c standard typed_there carried = record {
-  prefix = taken_first facts canon s c standard typed_there carried;
-  all = taken_all facts canon s c standard typed_there carried;
-  of_given = taken_of facts canon s c standard typed_there carried;
-}
+  reads : ReadsWhatIsTyped canon (server_seen s) (client_seen c)
+  reads = record { prefix = taken_first; all = taken_all }
+
+-- what is seen of two sessions that ran
+module _ {J : Type 0} (facts : JobFacts J) (canon : Canon) (standard : canon.settings.chars ≡ standard_characters) where
+  abbrev Reads : ServerSession → ClientSession → Type 0
+  Reads s c = All (λ input. HasKey canon.settings input) c.inputs → IsCarried s.transcript c.transcript → ReadsWhatIsTyped canon s c
+
+  reads_of : (s : ServerSession) (c : ClientSession) (run : Served facts canon) (ran : Connected canon.limit)
+      → s ≡ server_seen run → c ≡ client_seen ran → Reads s c
+  reads_of s c run ran s_seen c_seen =
+      let of_client : Reads (server_seen run) c = subst (λ d. Reads (server_seen run) d) (sym c_seen)
+      (λ typed_there carried. reads facts canon run ran standard typed_there carried) in
+      subst (λ d. Reads d c) (sym s_seen) of_client
+
+  abbrev Given : List ℕ → ServerSession → ClientSession → Type 0
+  Given given s c = All (λ input. HasKey canon.settings input) c.inputs → IsCarried s.transcript c.transcript
+      → IsPrefixOf s.entries_taken (typed_entries canon given)
+
+  given_of : (s : ServerSession) (c : ClientSession) (given : List ℕ) (run : Served facts canon) (ran : Connected canon.limit)
+      → s ≡ server_seen run → c ≡ client_seen ran → ran.keys.reader.bytes ≡ Some given → ran.keys.controls ≡ Some [] → Given given s c
+  given_of s c given run ran s_seen c_seen bytes alone =
+      let of_client : Given given (server_seen run) c = subst (λ d. Given given (server_seen run) d) (sym c_seen)
+      (λ typed_there carried. taken_of facts canon run ran standard typed_there carried given bytes alone) in
+      subst (λ d. Given given d c) (sym s_seen) of_client
+
+pub theorem_of_sessions : {J : Type 0} (facts : JobFacts J) → TheoremOfSessions facts
+theorem_of_sessions facts canon s c served connected standard =
+    reads_of facts canon standard s c served.run connected.run served.seen connected.seen
+
+pub reads_what_is_given : {J : Type 0} (facts : JobFacts J) → ReadsWhatIsGiven facts
+reads_what_is_given facts canon s c given served gives standard =
+    given_of facts canon standard s c given served.run gives.run served.seen gives.seen gives.bytes gives.alone

@@ -3,7 +3,7 @@ use Rattle.std.specs.{Prelude.{◌≡◌, ◌⊎◌, ℕ, None, Some, List, [], 
 use Rattle.tn_cores.specs.client.Marks as core
 use Rattle.tn_cores.specs.client.Run as core_run
 use Rattle.tn_discipline.specs.Canon.{Canon}
-use Rattle.tn_theorems.specs.sessions.Transcripts.{Served, Connected}
+use Rattle.tn_theorems.specs.sessions.Returned.{Served, Connected}
 use Rattle.tn_session.specs.Client as of_client
 use Rattle.tn_session.specs.{Facts.JobFacts, Transcripts.{Exchange, all_wrote}}
 use Rattle.tn_session.specs.Session as of_server

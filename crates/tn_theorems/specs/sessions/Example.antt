@@ -1,9 +1,10 @@
--- Two sessions that meet every premise of `Headline`, and have an entry: a line is typed at the client and
+-- Two sessions that meet every premise of `TheoremOfSessions`, and have an entry: a line is typed at the client and
 -- taken at the server.
 use Rattle.std.specs.Prelude.{◌≡◌, All, [], ◌∷◌}
 use Rattle.tn_discipline.specs.{Canon.Canon, Characters.standard_characters, Keys.standard_flags}
 use Rattle.tn_discipline.specs.{Limits.standard_limit, declared.reads.Entry.TheVariants.Text}
-use Rattle.tn_theorems.specs.sessions.Transcripts.{Served, Connected, IsCarried, RanToTheEnd, HasKey}
+use Rattle.tn_theorems.specs.sessions.{Returned.{Served, Connected, client_seen, server_seen}}
+use Rattle.tn_theorems.specs.sessions.{Theorem.{HasKey, RanToTheEnd}, Transcripts.IsCarried}
 use Rattle.tn_server.specs.declared.openings.Approach.{Approach}
 use Rattle.tn_session.specs.Facts.{JobFacts, job_facts}
 
@@ -27,6 +28,6 @@ pub record SessionsCarryALine (approach : Approach) : Type 0 where
   pub approached : server.approach ≡ approach
   pub with_keys : All (λ input. HasKey canon.settings input) client.ran.inputs
   pub carried : IsCarried server.ran.transcript client.ran.transcript
-  pub ran : RanToTheEnd server client
+  pub ran : RanToTheEnd (server_seen server) (client_seen client)
   pub typed_keys : client.ran.keys_read ≡ 97 ∷ 13 ∷ []
   pub taken : server.ran.entries_taken ≡ Text (97 ∷ 10 ∷ []) ∷ []

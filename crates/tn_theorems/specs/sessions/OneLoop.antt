@@ -1,5 +1,5 @@
--- The machines of two sessions, run by one loop: no socket, no thread and no pipe is between them but two
--- lists of bytes. Read `Happens`, and `ReadsAll` at the end.
+-- The theorem of one loop (T4), which runs the machines of two sessions: no socket, no thread and no pipe is
+-- between them but two lists of bytes. Read `Happens`, and `ReadsAll` at the end.
 use Rattle.std.specs.Prelude.{◌≡◌, ◌<◌, ◌⊎◌, ℕ, IsFalse, All, List, [], ◌∷◌, ◌++◌, flat_map, length, min}
 use Rattle.std.specs.List.{FoldsTo}
 use Rattle.tn_cores.specs.client.Reaching as core
@@ -11,7 +11,7 @@ use Rattle.tn_cores.specs.declared.client.messages.ClientMark as core_mark
 use Rattle.tn_cores.specs.declared.client.messages.Origin.TheVariants as origin
 use Rattle.tn_discipline.specs.{Canon.{Canon, typed_entries}, Characters.standard_characters}
 use Rattle.tn_jobs.specs.Jobs.{Jobs}
-use Rattle.tn_theorems.specs.sessions.Transcripts.{HasKey, IsCarried, keys_of}
+use Rattle.tn_theorems.specs.sessions.{Theorem.{HasKey, keys_of}, Transcripts.IsCarried}
 use Rattle.tn_theorems.specs.declared.sessions.one_loop.{Joined.Joined, LoopEvent.LoopEvent}
 use Rattle.tn_theorems.specs.declared.sessions.one_loop.LoopEvent.TheVariants.{Take, Said, Typed, Asked}
 use Rattle.tn_theorems.specs.declared.sessions.one_loop.LoopEvent.TheVariants.{ToServer, ToClient}
@@ -168,8 +168,8 @@ pub record ReadsAll (canon : Canon) (typed : List Input) (j : Joined) : Type 0 w
   pub to_client : all_wrote server ≡ all_read client ++ j.to_client.items
 
 -- from the start on, with the standard special characters, of which INTR interrupts if BRK or IP was sent
-abbrev pub LoopReads : Type 0
-LoopReads =
+abbrev pub TheoremOfOneLoop : Type 0
+TheoremOfOneLoop =
     (canon : Canon) (approach : Approach) (jobs : Jobs) (width height : ℕ) (first last : Joined)
     (script : List LoopEvent)
     → canon.settings.chars ≡ standard_characters

@@ -1,7 +1,7 @@
-//! The headline over two programs, as a law over what their calls promise; and what both ends take as typed.
+//! The theorem of two programs (T3), over what their calls promise; and what both ends take as typed.
 
 ghost use Rattle.tn_theorems.specs.programs.Keys.{TypedAreKeys};
-ghost use Rattle.tn_theorems.specs.programs.Programs.{HeadlineOfPrograms, ReadsEditedLines};
+ghost use Rattle.tn_theorems.specs.programs.Programs.{ReadsEditedLines, TheoremOfPrograms};
 ghost use Rattle.tn_session.specs.{Facts.job_facts, Makers.begins};
 
 use crate::sessions::laws::what_you_type_is_what_the_job_reads;
@@ -13,7 +13,7 @@ use tn_session::Maker;
 /// the keys that the client read, and is all of them if both ran to the end.
 pub fn what_you_type_over_a_connection_is_read<M: Maker>()
     ensures { (maker : M) →
-        HeadlineOfPrograms (job_facts (begins M.Job.fresh M.gives maker) M.Job.reacts M.Job.steps
+        TheoremOfPrograms (job_facts (begins M.Job.fresh M.gives maker) M.Job.reacts M.Job.steps
         M.Job.refuses) }
 {
     what_you_type_is_what_the_job_reads::<M>();

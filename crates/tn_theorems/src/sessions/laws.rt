@@ -1,10 +1,11 @@
-//! The headline over two running sessions, as laws over the definitions alone.
+//! The theorems of two sessions (T2) and of one loop (T4), over the definitions alone.
 
 ghost use Rattle.std.specs.Prelude.{ℕ};
 ghost use Rattle.tn_discipline.specs.Canon.{Canon};
-ghost use Rattle.tn_theorems.specs.sessions.{Answers.{AnswersOfServer, AnswersOfClient}, OneLoop.LoopReads};
+ghost use Rattle.tn_theorems.specs.sessions.{Answers.{AnswersOfServer, AnswersOfClient}, OneLoop.TheoremOfOneLoop};
 ghost use Rattle.tn_theorems.specs.sessions.Example.{SessionsCarryALine};
-ghost use Rattle.tn_theorems.specs.sessions.Transcripts.{Headline, Served, Connected};
+ghost use Rattle.tn_theorems.specs.sessions.Returned.{Served, Connected};
+ghost use Rattle.tn_theorems.specs.sessions.Theorem.{ReadsWhatIsGiven, TheoremOfSessions};
 ghost use Rattle.tn_session.specs.{Facts.job_facts, Makers.begins};
 ghost use Rattle.tn_server.specs.declared.{openings.Opening.TheVariants.Keys, wishes.Editing.Editing};
 
@@ -14,10 +15,13 @@ use tn_session::Maker;
 /// server's special characters are the standard ones, both have lines of one limit, each command
 /// that was sent stands for a key at the server, and a socket carries what each wrote. Then what
 /// the job took is a prefix of the entries of the keys that the client read, with the commands
-/// between them, and is all of them if both sessions ran to the end.
+/// between them, and is all of them if both sessions ran to the end. It is a prefix of the entries
+/// of what the user's reader gives, too, if its bytes are known and nothing is asked for between
+/// them.
 pub fn what_you_type_is_what_the_job_reads<M: Maker>()
-    ensures { (maker : M) →
-        Headline
+    ensures typed { (maker : M) → TheoremOfSessions
+        (job_facts (begins M.Job.fresh M.gives maker) M.Job.reacts M.Job.steps M.Job.refuses) }
+    ensures given { (maker : M) → ReadsWhatIsGiven
         (job_facts (begins M.Job.fresh M.gives maker) M.Job.reacts M.Job.steps M.Job.refuses) }
 {}
 
@@ -36,7 +40,7 @@ pub fn no_answer_comes_late<M: Maker>()
 /// is what the job reads, for all events and however the bytes are cut: that they are carried is
 /// proved, and no premise.
 pub fn one_loop_reads_what_is_typed()
-    ensures { LoopReads }
+    ensures { TheoremOfOneLoop }
 {}
 
 /// The premises about two sessions can be met, and both can run to the end: a line is typed at the
