@@ -13,8 +13,8 @@ nothing_asked false = refl
 
 pub begins : (opening : Opening) (canon : Canon) (end : End) → end.terminal ≡ new_terminal canon.settings canon.limit → end.table ≡ canon.settings.chars
     → end.terms.options ≡ opening_options opening → end.terms.wish ≡ 0 → end.terms.opening ≡ opening → end.modes ≡ no_mode → end.pulled ≡ false
-    → LeadsTo (begun opening canon) end
-begins opening canon end terminal table options wish opens modes pulled = record {
+    → end.breaks ≡ 0 → LeadsTo (begun opening canon) end
+begins opening canon end terminal table options wish opens modes pulled breaks = record {
   settings = ap (λ t. t.settings) terminal;
   table = table;
   terms =
@@ -31,4 +31,5 @@ begins opening canon end terminal table options wish opens modes pulled = record
   queue = ap (λ t. t.queue) terminal;
   size = ap (λ t. (t.width, t.height)) terminal;
   due = pulled;
+  breaks = breaks;
 }

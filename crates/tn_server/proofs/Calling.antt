@@ -32,6 +32,7 @@ stands_wrote h old bytes s = record {
   queue = written old.terminal.settings (settings h) old.terminal.queue (queue h) s.settings s.queue;
   size = s.size;
   due = s.due;
+  breaks = s.breaks;
 }
   where
     written : (x y : Settings) (p q : List Symbol) → x ≡ y → p ≡ q
@@ -82,6 +83,7 @@ stands_took h old [] is s =
       queue = s.queue;
       size = s.size;
       due = rw (left, ← o, ← s.due) refl;
+      breaks = s.breaks;
     }
 stands_took h old (r ∷ rest) is s =
     let waits = s.waits ∙ ap (λ (xs : List Entry). s.read ++ xs) is in
@@ -100,6 +102,7 @@ stands_took h old (r ∷ rest) is s =
       queue = s.queue;
       size = s.size;
       due = rw left s.due;
+      breaks = s.breaks;
     }
 
 pub replies_took : (h : History) (old : End) (es : List Entry) → old.terminal.entries ≡ es → LeadsTo h old → replies h took ≡ says_take old es
@@ -152,6 +155,7 @@ stands_pulled h old n s = record {
   queue = ap (λ (q : List Symbol). drop n q) s.queue;
   size = s.size;
   due = rw (s.due, s.queue) refl;
+  breaks = s.breaks;
 }
 
 or_false : (b : Bool) → (b || false) ≡ b
@@ -192,6 +196,7 @@ stands_wished h old editing s =
       queue = s.queue;
       size = s.size;
       due = s.due;
+      breaks = s.breaks;
     }
 
 pub stands_wish : (h : History) (old : End) (editing : Editing) → LeadsTo h old → LeadsTo (next h (wished editing)) (end_after old (wished editing))
@@ -234,6 +239,7 @@ stands_char h old func value s = record {
   queue = s.queue;
   size = s.size;
   due = s.due;
+  breaks = s.breaks;
 }
 
 pub replies_char : (h : History) (old : End) (func : Func) (value : Option ℕ) → LeadsTo h old → replies h (char_set func value) ≡ says old (char_set func value)
@@ -300,6 +306,7 @@ stands_echo h old on s =
       queue = s.queue;
       size = s.size;
       due = s.due;
+      breaks = s.breaks;
     }
 
 pub replies_echo : (h : History) (old : End) (on : Bool) → LeadsTo h old → replies h (echo_set on) ≡ says old (echo_set on)
@@ -327,4 +334,5 @@ stands_mask h old mask s = record {
   queue = s.queue;
   size = s.size;
   due = s.due;
+  breaks = s.breaks;
 }

@@ -9,7 +9,7 @@ use Rattle.tn_linemode.specs.Modes.{Modes, edits}
 use Rattle.tn_nvt.specs.declared.items.Item.{Item}
 use Rattle.tn_option.specs.Options.{Options}
 use Rattle.tn_pty.specs.{Terminal.{Terminal, queue_with}, Typing.{gain_of, terminal_after}}
-use Rattle.tn_server.specs.{Events.{Event, History, next, got}, Terms.{Terms, terms_after, asked_mask_of, changes, mask_after, chars_after, payload_at, echoes}}
+use Rattle.tn_server.specs.{Events.{Event, History, next, got, breaks_after}, Terms.{Terms, terms_after, asked_mask_of, changes, mask_after, chars_after, payload_at, echoes}}
 use Rattle.tn_server.specs.{Lines.{roles, role_at, role_of_item}, Screen.{shows, size_after}, Replies.{replies, items_at, list_replies}, Calls.{End, LeadsTo}}
 use Rattle.tn_server.proofs.lemmas.Ends.{line_is}
 
@@ -42,6 +42,7 @@ end_by_terms old item =
       };
       table = chars_after old.table payload;
       terminal = terminal_by_terms old item payload;
+      breaks = breaks_after old.breaks item;
     }
 
 abbrev pub says_by_terms : End → Item → List Item
@@ -118,6 +119,7 @@ stands_got h old item s =
       queue = same_queue _ _ _ _ _ _ _ _ _ _ item s.settings is_mode is_options (line_is h old s) s.queue;
       size = same_size _ _ _ _ item s.size is_options;
       due = s.due;
+      breaks = ap (λ (n : ℕ). breaks_after n item) s.breaks;
     }
 
 pub replies_got : (h : History) (old : End) (item : Item) → LeadsTo h old → replies h (got item) ≡ says_by_terms old item

@@ -7,7 +7,7 @@ use Rattle.tn_linemode.specs.{Modes.{Modes, edits, mode_of, is_acknowledged}, Wo
 use Rattle.tn_nvt.specs.declared.items.Item.{Item, TheVariants.{Neg, Sub}}
 use Rattle.tn_option.specs.Options.{Options, options_after_word}
 use Rattle.tn_pty.specs.{Terminal.{Terminal, queue_with}, Typing.terminal_after}
-use Rattle.tn_server.specs.{Events.{History, got}, Terms.{payload_at, wish_in, options_after, linemode, echoes, wish_after}, Lines.role_at}
+use Rattle.tn_server.specs.{Events.{History, got, breaks_after}, Terms.{payload_at, wish_in, options_after, linemode, echoes, wish_after}, Lines.role_at}
 use Rattle.tn_server.specs.Terms.{Terms, terms_by, mask_told, asks_echo, wants_echo, asked_mask_of, asked_mask_while, changes, mask_after, chars_after}
 use Rattle.tn_server.specs.{Screen.{shows, size_after}, Replies.{items_by, reply_items, list_replies}, Calls.{End, LeadsTo}, declared.wishes.Editing.Editing}
 use Rattle.tn_server.specs.Steps.{end_after_word, says_words, end_after_wish, mask_wished, end_after_mode, with_negotiated, negotiation_after}
@@ -98,12 +98,14 @@ quiet_got : (old : End) (item : Item) (payload : Option Payload) → options_aft
       modes = record { asked = old.modes.asked; current = mask_after false old.modes.current payload };
       table = chars_after old.table payload;
       terminal = set_by old (typed_by old item) payload;
+      breaks = breaks_after old.breaks item;
     }
 quiet_got old item payload h p w s =
-    ap (λ (t : Terms). with_all old t (payload_at old.terms.options item) (terminal_by_terms old item (payload_at old.terms.options item)))
+    let end : End = record old { breaks = breaks_after old.breaks item } in
+    ap (λ (t : Terms). with_all end t (payload_at old.terms.options item) (terminal_by_terms old item (payload_at old.terms.options item)))
     (quiet_terms old item payload h p w)
-    ∙ ap (λ (x : Option Payload). with_all old old.terms x (terminal_by_terms old item x)) p
-    ∙ still old payload (terminal_by_terms old item payload) s.masks
+    ∙ ap (λ (x : Option Payload). with_all end old.terms x (terminal_by_terms old item x)) p
+    ∙ still end payload (terminal_by_terms old item payload) s.masks
 
 pub quiet_says : (old : End) (item : Item) (payload : Option Payload) → options_after old.terms.options (got item) ≡ old.terms.options
     → reply_items old.terms.options (got item) ≡ [] → payload_at old.terms.options item ≡ payload
@@ -133,9 +135,10 @@ unset old t settings width height s =
 
 -- a byte, a new line or a command
 pub typed_got : (old : End) (item : Item) → options_after old.terms.options (got item) ≡ old.terms.options → payload_at old.terms.options item ≡ None
-    → IsSound old → end_by_terms old item ≡ record old { terminal = typed_by old item }
-typed_got old item h p s = quiet_got old item None h p refl s ∙ ap (λ (t : Terminal). record old { terminal = t })
-    (unset old (typed_by old item) refl refl refl s)
+    → IsSound old → end_by_terms old item ≡ record old { terminal = typed_by old item; breaks = breaks_after old.breaks item }
+typed_got old item h p s =
+    quiet_got old item None h p refl s
+    ∙ ap (λ (t : Terminal). record old { terminal = t; breaks = breaks_after old.breaks item }) (unset old (typed_by old item) refl refl refl s)
 
 -- the item types nothing
 abbrev pub TypesNothing : End → Item → Type 0
@@ -155,6 +158,7 @@ pub unwished : (old : End) (item : Item) (payload : Option Payload) → options_
       modes = record { asked = old.modes.asked; current = mask_after false old.modes.current payload };
       table = chars_after old.table payload;
       terminal = set_by old old.terminal payload;
+      breaks = breaks_after old.breaks item;
     }
 unwished old item payload h p w n s =
     quiet_got old item payload h p w s
@@ -162,6 +166,7 @@ unwished old item payload h p w n s =
       modes = record { asked = old.modes.asked; current = mask_after false old.modes.current payload };
       table = chars_after old.table payload;
       terminal = set_by old t payload;
+      breaks = breaks_after old.breaks item;
     }) n
 
 -- the terminal's own characters

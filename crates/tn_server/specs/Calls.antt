@@ -6,7 +6,7 @@ use Rattle.tn_discipline.specs.Advancing as discipline
 use Rattle.tn_linemode.specs.Modes.{Modes}
 use Rattle.tn_nvt.specs.Feeding.{DecoderState}
 use Rattle.tn_pty.specs.Terminal.{Terminal}
-use Rattle.tn_server.specs.{Events.{History, limit}, Lines.{roles, entries, taken_count}}
+use Rattle.tn_server.specs.{Events.{History, limit, breaks}, Lines.{roles, entries, taken_count}}
 use Rattle.tn_server.specs.Terms.{Terms, terms, linemode, asked_mask, mode, settings, chars}
 use Rattle.tn_server.specs.{Screen.{queue, due, size}, declared.faults.ServerFault.ServerFault}
 use Rattle.tn_server.specs.declared.faults.ServerFault.TheVariants as fault
@@ -19,6 +19,7 @@ pub record End : Type 0 where
   pub table : Characters
   pub terminal : Terminal
   pub pulled : Bool
+  pub breaks : ℕ
   pub failed : Bool
 
 -- the history leads to this end
@@ -36,6 +37,7 @@ pub record LeadsTo (h : History) (end : End) : Type 0 where
   pub queue : end.terminal.queue ≡ queue h
   pub size : (end.terminal.width, end.terminal.height) ≡ size h
   pub due : end.pulled ≡ due h
+  pub breaks : end.breaks ≡ breaks h
 
 -- why a call is refused whatever memory there is: the end has failed before
 abbrev pub call_fault : End → Option ServerFault

@@ -1,9 +1,9 @@
 -- The events at a server end: items come and calls are made.
-use Rattle.std.specs.Prelude.{ℕ, Bool, Option, List, [], ◌∷◌, ◌++◌}
-use Rattle.tn_codes.specs.declared.{codes.Func.Func, masks.Mask.Mask}
+use Rattle.std.specs.Prelude.{ℕ, ◌+◌, ◌%◌, ◌^◌, Bool, Option, List, [], ◌∷◌, ◌++◌}
+use Rattle.tn_codes.specs.declared.{codes.{Func.Func, Command.TheVariants.Brk}, masks.Mask.Mask}
 use Rattle.tn_discipline.specs.{Canon.Canon, declared.termios.Settings.Settings}
 use Rattle.tn_linemode.specs.Folding.{after_all}
-use Rattle.tn_nvt.specs.declared.items.Item.{Item}
+use Rattle.tn_nvt.specs.declared.items.Item.{Item, TheVariants.Cmd}
 use Rattle.tn_server.specs.declared.{openings.Opening.Opening, wishes.Editing.Editing}
 
 -- an item that came, or a call that was made
@@ -37,6 +37,17 @@ abbrev pub items : History → List Item
 items (begun opening canon) = []
 items (next h (got item)) = items h ++ item ∷ []
 items (next h _) = items h
+
+-- RFC 854: the number of BREAKs after one more item, modulo 2 ^ 32
+abbrev pub breaks_after : ℕ → Item → ℕ
+breaks_after n (Cmd Brk) = (n + 1) % 2 ^ 32
+breaks_after n _ = n
+
+-- the number of BREAKs among the items of a history, modulo 2 ^ 32
+abbrev pub breaks : History → ℕ
+breaks (begun opening canon) = 0
+breaks (next h (got item)) = breaks_after (breaks h) item
+breaks (next h _) = breaks h
 
 -- these items came, one after another
 abbrev pub gets : History → List Item → History

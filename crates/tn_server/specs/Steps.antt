@@ -19,8 +19,9 @@ use Rattle.tn_pty.specs.{Typing.{terminal_after, command_role, command_shows}, d
 use Rattle.tn_pty.specs.declared.pty.PtyFault.TheVariants as pty
 use Rattle.tn_server.specs.Events.{Event, got, took, wrote, pulled, wished, char_set, echo_set, mask_set}
 use Rattle.tn_server.specs.Terms.{payload_at, echoes, linemode, options_with_echo, wants_echo, mask_for}
-use Rattle.tn_server.specs.{Terms.editing, Lines.{role_at, role_of_byte}, Screen.{byte_shows, sends_ga}}
-use Rattle.tn_server.specs.{Replies.{list_replies, new_table_items, echo_items, character_items}, Calls.End}
+use Rattle.tn_server.specs.{Events.breaks_after, Terms.editing, Lines.{role_at, role_of_byte}}
+use Rattle.tn_server.specs.{Screen.{byte_shows, sends_ga}, Calls.End}
+use Rattle.tn_server.specs.Replies.{list_replies, new_table_items, echo_items, character_items}
 use Rattle.tn_server.specs.{Replies.{forward_payload, data_of}, declared.faults.ServerFault.ServerFault}
 use Rattle.tn_server.specs.declared.{terms.Negotiation.Negotiation, wishes.Editing.Editing}
 use Rattle.tn_server.specs.declared.faults.ServerFault.TheVariants as fault
@@ -201,7 +202,10 @@ end_after_byte old byte =
 -- the end after a command
 abbrev pub end_after_command : End → Command → End
 end_after_command old command =
-    record old { terminal = terminal_after old.terminal (command_role command) (command_shows command) }
+    record old {
+      terminal = terminal_after old.terminal (command_role command) (command_shows command);
+      breaks = breaks_after old.breaks (Cmd command);
+    }
 
 -- AN ITEM: the end after it, and its reply
 abbrev pub end_after_item : End → Item → End

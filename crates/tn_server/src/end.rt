@@ -11,11 +11,11 @@ ghost use Rattle.tn_option.specs.{Options.{state_of, is_yes}, declared.q_method.
 ghost use Rattle.tn_pty.specs.{Terminal.{fitting_count, first_signal}, declared.pty.PtyFault.PtyFault};
 ghost use Rattle.tn_pty.specs.declared.pty.PtyFault.TheVariants.{Closed};
 ghost use Rattle.tn_server.specs.Events.{History, begun, took, pulled, wished, char_set, echo_set, mask_set};
-ghost use Rattle.tn_server.specs.{Lines.{half, waiting}, Screen.size, Replies.opening, Steps.LacksRoomFor};
-ghost use Rattle.tn_server.specs.Terms.{mode, asked_mask, chars, settings, options};
+ghost use Rattle.tn_server.specs.{Events.breaks, Lines.{half, waiting}, Screen.size, Replies.opening};
+ghost use Rattle.tn_server.specs.Steps.{LacksRoomFor, end_after, end_after_write, end_after_pull, says};
+ghost use Rattle.tn_server.specs.{Steps.sends_mode_now, Terms.{mode, asked_mask, chars, settings, options}};
 ghost use Rattle.tn_server.specs.{Faults.{IsOfItem, IsOfPiece, IsFault}, Answering.{Feeds, StopsWithin}};
 ghost use Rattle.tn_server.specs.Calls.{LeadsTo, call_fault, char_fault_at, mask_fault};
-ghost use Rattle.tn_server.specs.Steps.{end_after, end_after_write, end_after_pull, says, sends_mode_now};
 
 use crate::faults::ServerFault;
 use crate::openings::Opening;
@@ -45,6 +45,7 @@ pub struct ServerEnd {
     pub(crate) table: ServerTable,
     pub(crate) pair: Pair,
     pub(crate) pulled: bool,
+    pub(crate) breaks: u32,
     pub(crate) failed: bool,
 }
 
@@ -65,6 +66,7 @@ impl Model for ServerEnd {
           table = e.table;
           terminal = e.pair;
           pulled = e.pulled;
+          breaks = e.breaks;
           failed = e.failed;
         } };
 }
@@ -153,6 +155,7 @@ impl ServerEnd {
             table,
             pair,
             pulled: false,
+            breaks: 0,
             failed: false,
         })
     }
@@ -436,6 +439,14 @@ impl ServerEnd {
         ensures { (h : History) → LeadsTo h self.now → result ≡ size h }
     {
         self.pair.size()
+    }
+
+    /// Returns the number of BREAKs (IAC BRK, RFC 854) that were taken, modulo 2^32. Each is an
+    /// interrupt at the terminal, too.
+    pub fn breaks(&self) -> u32
+        ensures { (h : History) → LeadsTo h self.now → result ≡ breaks h }
+    {
+        self.breaks
     }
 
     /// Returns the mask in force: the bits EDIT (1) and TRAPSIG (2) of the MODE that the client

@@ -12,7 +12,7 @@ ghost use Rattle.tn_server.specs.Steps.{end_after_item, says_item, end_after_ite
 ghost use Rattle.tn_server.specs.Steps.{role_of_typed, end_after_byte, end_after_command, IsShut, IsKeyCause};
 ghost use Rattle.tn_server.specs.Steps.{MayWantMemory, end_after_word, says_words, end_after_wish};
 ghost use Rattle.tn_server.specs.Steps.{says_wished, sends_wished, end_after_mode, says_mode_got};
-ghost use Rattle.tn_server.specs.Steps.{end_after_list, end_after_payload, says_sub};
+ghost use Rattle.tn_server.specs.{Steps.{end_after_list, end_after_payload, says_sub}, Events.breaks_after};
 ghost use Rattle.tn_linemode.specs.Prefixes.{AppendsPrefix};
 
 use crate::end::ServerEnd;
@@ -87,12 +87,19 @@ impl ServerEnd {
         self.pair.raw_key(byte, echo)
     }
 
+    // Takes a command, and counts it if it is a BREAK.
     fn command(&mut self, command: Command) -> Result<(), PtyFault>
         ensures ok { OnOk result (self.new ≡ end_after_command self.old command) }
         ensures err { OnErr result (IsShut self.old self.new) }
         ensures cause { IfErr result (λ fault. IsKeyCause self.old.terminal (command_role command) fault) }
     {
-        self.pair.command(command)
+        match self.pair.command(command) {
+            Ok(()) => {
+                self.breaks = breaks_after(self.breaks, command);
+                Ok(())
+            },
+            Err(fault) => Err(fault),
+        }
     }
 
     // Answers an option message, and appends all that follows from it.
@@ -237,5 +244,15 @@ impl ServerEnd {
             )
             | None => Ok(()),
         }
+    }
+}
+
+// Returns the number of BREAKs after one more command.
+fn breaks_after(breaks: u32, command: Command) -> u32
+    ensures { result ≡ breaks_after breaks (item.Cmd command) }
+{
+    match command {
+        Command::Brk => breaks.wrapping_add(1),
+        _ => breaks,
     }
 }

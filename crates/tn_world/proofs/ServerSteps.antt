@@ -243,7 +243,9 @@ word_never canon old verb option k (inr t) = subst NeverEnds (sym (turned_after 
 pub stays_got : (canon : Canon) (old : End) (item : Item) → ServerStays canon old → IsCalmToServer canon.settings item → ServerStays canon (end_after_item old item)
 stays_got canon old (Byte byte) k c = stays_typed canon old (role_at old.terminal.settings (edits old.modes.current) (Byte byte)) _ k
 stays_got canon old Newline k c = stays_typed canon old (role_at old.terminal.settings (edits old.modes.current) Newline) _ k
-stays_got canon old (Cmd command) k c = stays_typed canon old (command_role command) _ k
+stays_got canon old (Cmd command) k c =
+    let typed : End = record old { terminal = terminal_after old.terminal (command_role command) (command_shows command) } in
+    stays_aside canon typed (end_after_item old (Cmd command)) refl refl refl refl refl (stays_typed canon old (command_role command) _ k)
 stays_got canon old (Neg verb option) k c =
     stays_negotiated canon old (linemode old.terms.options) false old.terminal.settings.flags (negotiation_heard old verb option)
     (word_agrees old.terms.options Them verb option ∙ k.agreed) (word_never canon old verb option k c) k.wish k

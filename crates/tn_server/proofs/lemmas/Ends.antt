@@ -5,7 +5,7 @@ use Rattle.std.proofs.lemmas.List.{take-append-drop, take-append-le, length-take
 use Rattle.tn_discipline.proofs.lemmas.Histories.{entries-all}
 use Rattle.tn_discipline.specs.{Entries.half_of, Keys.roles_from, Steps.gain_all, HalfLine.HalfLine, declared.reads.Entry.Entry}
 use Rattle.tn_nvt.specs.{Feeding.failed, declared.items.Item.Item}
-use Rattle.tn_server.specs.{Events.{History, begun, next, got, took, limit}, Lines.{roles, role_of_item, half, entries, taken_count, line, waiting}}
+use Rattle.tn_server.specs.{Events.{History, begun, next, got, took, limit, breaks}, Lines.{roles, role_of_item, half, entries, taken_count, line, waiting}}
 use Rattle.tn_server.specs.{Calls.{End, LeadsTo}, Screen.{queue, size, due}, Terms.{terms, asked_mask, mode, chars, settings}}
 
 -- if nothing is ahead, the half-typed line is the held bytes
@@ -47,6 +47,7 @@ end_at h =
         closed = false;
       };
       pulled = due h;
+      breaks = breaks h;
       failed = false;
     }
 
@@ -89,6 +90,7 @@ stands_there h = record {
   queue = refl;
   size = refl;
   due = refl;
+  breaks = refl;
 }
 
 -- an item takes none

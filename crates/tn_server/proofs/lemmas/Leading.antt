@@ -84,6 +84,7 @@ stands_aside h old new is s =
       queue = s.queue;
       size = s.size;
       due = s.due;
+      breaks = s.breaks;
     } in
     subst (LeadsTo h) (sym is) here
 

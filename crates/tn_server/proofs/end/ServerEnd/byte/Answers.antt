@@ -15,6 +15,7 @@ returns-clause-cause c =
       table = p.table;
       terminal = p.pair;
       pulled = p.pulled;
+      breaks = p.breaks;
       failed = p.failed;
     } in
     let edit : edits p.terms.modes.current ≡ false = cc in

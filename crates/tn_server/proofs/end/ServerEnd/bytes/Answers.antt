@@ -18,6 +18,7 @@ returns-then-edit c =
       table = p.table;
       terminal = p.pair;
       pulled = p.pulled;
+      breaks = p.breaks;
       failed = p.failed;
     } in
     let new : End = record old { terminal = c.edited_run.new.self } in
@@ -44,6 +45,7 @@ returns c =
       table = p.table;
       terminal = p.pair;
       pulled = p.pulled;
+      breaks = p.breaks;
       failed = p.failed;
     } in
     let new : End = record old { terminal = c.type_run.new.self } in
