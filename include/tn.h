@@ -394,7 +394,8 @@ typedef enum tn_change TN_ENUM {
     TN_CHANGED_SIZE = 1,   /* tn_server_size */
     TN_CHANGED_MODE = 2,   /* tn_server_mode */
     TN_CHANGED_OPTION = 4, /* tn_server_option */
-    TN_CHANGED_CHAR = 8    /* tn_server_char */
+    TN_CHANGED_CHAR = 8,   /* tn_server_char */
+    TN_CHANGED_BREAK = 16  /* none: the number of BREAKs (IAC BRK) that came, modulo 2^32. A BREAK makes a TN_INT, as control-C does. */
 } tn_change;
 
 /* Sets *bits to the sum of the tn_change of all facts that differ from those at the last such call, or at the start. */

@@ -51,6 +51,9 @@ def looks(server, client):
     deliver(server, client)
     assert server.changes() == tn.CHANGED_SIZE | tn.CHANGED_OPTION | tn.CHANGED_CHAR  # the server echoes nothing in the client's place
     assert server.size() == (90, 30) and server.char(tn.CHAR_KILL) == 24 and client.pending() == client.screen_pending() == 0
+    client.send(tn.COMMAND_BRK)
+    deliver(server, client)
+    assert server.changes() == tn.CHANGED_BREAK and server.take() == (tn.INT, None)
 
 
 def floods(server):

@@ -235,6 +235,29 @@ static void worked_server(void)
     tn_server_free(&server);
 }
 
+/* BREAK is an interrupt, as control-C and IP are, and a change, which they are not; also if an option is owned. */
+static void worked_breaks(void)
+{
+    for (int owned = 0; owned < 2; owned++) {
+        tn_server server = TN_HANDLE;
+        tn_kind kind = TN_DROPPED;
+        uint32_t bits = 77;
+        SURE(tn_server_start(&server, &standard, 255) == TN_OK && (owned == 0 || tn_server_own(&server, 201) == TN_OK));
+        FEED(&server, "\x03\xff\xf4\xff");
+        for (int i = 0; i < 2; i++)
+            SURE(tn_server_take(&server, &kind) == TN_OK && kind == TN_INT);
+        SURE(tn_server_changes(&server, &bits) == TN_OK && bits == 0);
+        FEED(&server, "\xf3"); /* it ends IAC BRK */
+        SURE(tn_server_take(&server, &kind) == TN_OK && kind == TN_INT);
+        SURE(tn_server_changes(&server, &bits) == TN_OK && bits == TN_CHANGED_BREAK);
+        SURE(tn_server_changes(&server, &bits) == TN_OK && bits == 0);
+        FEED(&server, "\xff\xf3\xff\xf3\xff\xfd\x01"); /* IAC BRK twice, DO ECHO */
+        SURE(tn_server_changes(&server, &bits) == TN_OK && bits == (TN_CHANGED_BREAK | TN_CHANGED_OPTION));
+        SURE(tn_server_changes(&server, &bits) == TN_OK && bits == 0);
+        tn_server_free(&server);
+    }
+}
+
 /* Output is spelled in one step with the echo, and sent from where it stands: a part, and then the rest. */
 static void worked_output(void)
 {
@@ -463,13 +486,13 @@ static void worked_memory(void)
     tn_line line = TN_HANDLE;
     tn_decoder decoder = TN_HANDLE;
     asked = 0;
-    SURE(tn_server_start(&server, &standard, 255) == TN_OK && asked <= 10062);
+    SURE(tn_server_start(&server, &standard, 255) == TN_OK && asked <= 10070);
     asked = 0;
-    SURE(tn_client_start(&client, 80, 24, 255) == TN_OK && asked <= 831);
+    SURE(tn_client_start(&client, 80, 24, 255) == TN_OK && asked <= 839);
     asked = 0;
-    SURE(tn_line_start(&line, &standard, 255) == TN_OK && asked <= 831);
+    SURE(tn_line_start(&line, &standard, 255) == TN_OK && asked <= 839);
     asked = 0;
-    SURE(tn_decoder_start(&decoder) == TN_OK && asked <= 576);
+    SURE(tn_decoder_start(&decoder) == TN_OK && asked <= 584);
     tn_server_free(&server);
     tn_client_free(&client);
     tn_line_free(&line);
@@ -811,6 +834,7 @@ int main(int argc, char **argv)
         worked_decoder();
         worked_spelling();
         worked_server();
+        worked_breaks();
         worked_output();
         worked_lines();
         worked_some();

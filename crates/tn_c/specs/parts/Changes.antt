@@ -3,7 +3,7 @@ use Rattle.std.specs.Prelude.{◌≡◌, ◌≢◌, ◌⊎◌, ◌↔◌, ℕ, �
 use Rattle.tn_codes.specs.OptionCodes as option_code
 use Rattle.tn_discipline.specs.Characters.{Characters}
 use Rattle.tn_option.specs.{Options.{Options, state_of}, declared.q_method.Side.TheVariants.{Us, Them}}
-use Rattle.tn_server.specs.{Calls.LeadsTo, Events.History, Screen.size, Terms.{chars, mode, options}}
+use Rattle.tn_server.specs.{Calls.LeadsTo, Events.{History, breaks}, Screen.size, Terms.{chars, mode, options}}
 use Rattle.tn_c.specs.{parts.Readings.{char_number, state_number}, declared.parts.changes.Seen.Seen}
 use Rattle.tn_c.specs.declared.parts.server.HeldServer.{HeldServer}
 
@@ -29,6 +29,7 @@ pub record IsSeen (h : History) (seen : Seen) : Type 0 where
   pub mode : seen.mode ≡ mode h
   pub options : seen.options ≡ states_seen (options h)
   pub chars : seen.chars ≡ chars_seen (chars h)
+  pub breaks : seen.breaks ≡ breaks h
 
 -- a bit if it is set, or 0
 abbrev pub bit : Bool → ℕ → ℕ
@@ -41,11 +42,13 @@ pub record TellsChanges (bits : ℕ) (old new : Seen) : Type 0 where
   pub mode : Bool
   pub options : Bool
   pub chars : Bool
-  pub sum : bits ≡ bit size 1 + bit mode 2 + bit options 4 + bit chars 8
+  pub breaks : Bool
+  pub sum : bits ≡ bit size 1 + bit mode 2 + bit options 4 + bit chars 8 + bit breaks 16
   pub size_is : IsTrue size ↔ ((new.width ≢ old.width) ⊎ (new.height ≢ old.height))
   pub mode_is : IsTrue mode ↔ (new.mode ≢ old.mode)
   pub options_is : IsTrue options ↔ (new.options ≢ old.options)
   pub chars_is : IsTrue chars ↔ (new.chars ≢ old.chars)
+  pub breaks_is : IsTrue breaks ↔ (new.breaks ≢ old.breaks)
 
 -- The bits show all that differs from the facts that were seen, and the present facts of the end are seen.
 pub record ChangesCall (bits : ℕ) (before after : HeldServer) : Type 0 where

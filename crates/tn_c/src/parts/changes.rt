@@ -1,5 +1,5 @@
-//! The facts of a server end that its client changes: its window's size, the mode, options and
-//! special characters.
+//! The facts of a server end that its client changes: its window's size, the mode, options, special
+//! characters and the number of BREAKs.
 
 ghost use Rattle.std.specs.Prelude.{◌≡◌, ◌≢◌, ◌⊎◌, ◌↔◌, ◌≤◌, IsTrue};
 ghost use Rattle.tn_server.specs.{Calls.LeadsTo, Events.History, Terms.options};
@@ -20,6 +20,8 @@ pub struct Seen {
     pub mode: u8,
     pub options: [u32; 5],
     pub chars: [u16; 8],
+    /// The number of BREAKs that were taken, modulo 2^32.
+    pub breaks: u32,
 }
 
 fn states_of(end: &ServerEnd) -> [u32; 5]
@@ -60,6 +62,7 @@ pub(crate) fn seen_of(end: &ServerEnd) -> Seen
         mode: end.mode(),
         options: states_of(end),
         chars: numbers_of(&end.chars()),
+        breaks: end.breaks(),
     }
 }
 
@@ -90,6 +93,12 @@ fn has_other_chars(old: &Seen, new: &Seen) -> bool
     new.chars != old.chars
 }
 
+fn has_other_breaks(old: &Seen, new: &Seen) -> bool
+    ensures { IsTrue result ↔ (new.now.breaks ≢ old.now.breaks) }
+{
+    new.breaks != old.breaks
+}
+
 // Returns a bit if it is set, or 0.
 fn bit(is_set: bool, value: u32) -> u32
     ensures value { result ≡ bit is_set value }
@@ -106,5 +115,6 @@ pub(crate) fn change_bits(old: &Seen, new: &Seen) -> u32
     let mode = bit(has_other_mode(old, new), 2);
     let options = bit(has_other_options(old, new), 4);
     let chars = bit(has_other_chars(old, new), 8);
-    size + mode + options + chars
+    let breaks = bit(has_other_breaks(old, new), 16);
+    size + mode + options + chars + breaks
 }

@@ -93,6 +93,7 @@ pub const TN_CHANGED_SIZE: u32 = 1;
 pub const TN_CHANGED_MODE: u32 = 2;
 pub const TN_CHANGED_OPTION: u32 = 4;
 pub const TN_CHANGED_CHAR: u32 = 8;
+pub const TN_CHANGED_BREAK: u32 = 16;
 
 pub const TN_NO_CHAR: u16 = 256;
 pub const TN_MODE_EDIT: u8 = 1;

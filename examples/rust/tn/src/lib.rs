@@ -8,7 +8,7 @@ use tn_sys as raw;
 
 pub use tn_sys::{tn_flags as Flags, TN_STANDARD_FLAGS as STANDARD_FLAGS};
 pub use tn_sys::{TN_CHAR_EOF, TN_CHAR_EOL, TN_CHAR_EOL2, TN_CHAR_ERASE, TN_CHAR_INTR, TN_CHAR_KILL, TN_CHAR_QUIT, TN_CHAR_SUSP};
-pub use tn_sys::{TN_CHANGED_CHAR, TN_CHANGED_MODE, TN_CHANGED_OPTION, TN_CHANGED_SIZE, TN_MODE_EDIT, TN_MODE_TRAPSIG};
+pub use tn_sys::{TN_CHANGED_BREAK, TN_CHANGED_CHAR, TN_CHANGED_MODE, TN_CHANGED_OPTION, TN_CHANGED_SIZE, TN_MODE_EDIT, TN_MODE_TRAPSIG};
 
 /// The number of a refusal: `TN_MEMORY` and the others of `tn.h`.
 #[derive(Clone, Copy, Debug, PartialEq, Eq)]

@@ -61,6 +61,10 @@ fn both_ends_tell_of_themselves() -> Result<()> {
     deliver(&mut server, &mut client)?;
     assert_eq!((server.size()?, server.char(TN_CHAR_KILL)?, client.char(TN_CHAR_EOL)?), ((90, 30), Some(24), Some(7)));
     assert_eq!((server.failed()?, client.failed()?, client.pending()?), (false, false, 0));
+    assert_eq!(server.changes()?, TN_CHANGED_SIZE | TN_CHANGED_OPTION | TN_CHANGED_CHAR);
+    client.send(Command::Brk)?;
+    deliver(&mut server, &mut client)?;
+    assert_eq!((server.changes()?, server.take()?), (TN_CHANGED_BREAK, Some(Entry::Int)));
     Ok(())
 }
 
