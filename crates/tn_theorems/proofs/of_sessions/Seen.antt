@@ -144,4 +144,4 @@ theorem_of_sessions facts canon s c served connected standard =
 
 pub reads_what_is_given : {J : Type 0} (facts : JobFacts J) → ReadsWhatIsGiven facts
 reads_what_is_given facts canon s c given served gives standard =
-    given_of facts canon standard s c given served.run gives.run served.seen gives.seen gives.bytes gives.alone
+    given_of facts canon standard s c given served.run gives.connected.run served.seen gives.connected.seen gives.bytes gives.alone

@@ -28,7 +28,7 @@ pub record Connected (limit : ℕ) : Type 0 where
   pub ran : RunningClient (record { width = width; height = height; limit = limit }) keys reader writer screen
       result
 
--- what is seen of them
+-- what is seen of a server's session
 abbrev pub server_seen : {J : Type 0} {facts : JobFacts J} {canon : Canon} → Served facts canon
     → ServerSession
 server_seen s =
@@ -57,7 +57,6 @@ pub record IsConnected (limit : ℕ) (c : ClientSession) : Type 0 where
 
 -- the client's reader gives these bytes, with nothing asked for between them
 pub record GivesAlone (limit : ℕ) (c : ClientSession) (given : List ℕ) : Type 0 where
-  pub run : Connected limit
-  pub seen : c ≡ client_seen run
-  pub bytes : run.keys.reader.bytes ≡ Some given
-  pub alone : run.keys.controls ≡ Some []
+  pub connected : IsConnected limit c
+  pub bytes : connected.run.keys.reader.bytes ≡ Some given
+  pub alone : connected.run.keys.controls ≡ Some []
